@@ -1,0 +1,3 @@
+mod Spreads
+mod Shown
+mod Lines

@@ -1,0 +1,6 @@
+pub mod Spreads
+pub mod Headers
+pub mod Settings
+pub mod Places
+pub mod Shown
+pub mod Answers

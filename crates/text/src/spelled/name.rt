@@ -1,0 +1,22 @@
+// The text of a name: its bytes.
+ghost use Rattle.keys.specs.Names.{nameFrom};
+use crate::spelled::Spelled;
+use keys::Name;
+use keys::NameKind;
+use keys::Refusal;
+use std::alloc::AllocError;
+use std::alloc::Global;
+
+pub impl Spelled for Name as NameSpelled {
+    ghost text = { λ k. k };
+
+    ghost reads = { nameFrom };
+
+    fn read(s: &[u8]) -> Result<Name, Refusal> {
+        Name::new(s)
+    }
+
+    fn write(&self, _heap: Global, out: &mut Vec<u8>) -> Result<(), AllocError> {
+        out.extend_from_slice(self.as_bytes())
+    }
+}
