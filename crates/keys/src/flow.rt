@@ -3,7 +3,7 @@ mod kind;
 
 pub use kind::FlowKind;
 
-#[derive(Clone, Copy, PartialEq, Eq, Debug)]
+#[derive(Clone, Copy)]
 pub struct Flow {
     pub source: u32,
     pub destination: u32,

@@ -15,7 +15,7 @@ pub mod line;
 pub use line::Line;
 
 // What a piece of input does to the line that is read.
-#[derive(Clone, Copy, PartialEq, Eq, Debug)]
+#[derive(Clone, Copy)]
 pub enum Piece {
     // the input is at its end
     End,

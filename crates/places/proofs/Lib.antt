@@ -1,4 +1,4 @@
 mod Words
 mod Quotients
 mod Powers
-mod Laws
+pub mod Laws

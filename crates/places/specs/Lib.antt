@@ -2,6 +2,5 @@ pub mod Words
 pub mod Choices
 pub mod Rules
 pub mod DigitCounts
-pub mod Builtins
+pub mod Meanings
 pub mod Made
-pub mod Examples

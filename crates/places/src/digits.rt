@@ -7,7 +7,7 @@ mod rule;
 pub use rule::DigitsRule;
 
 // How many digits are taken.
-#[derive(Clone, Copy, PartialEq, Eq, Debug)]
+#[derive(Clone, Copy)]
 pub enum DigitCount {
     Two,
     Three,

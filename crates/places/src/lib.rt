@@ -1,16 +1,11 @@
 // Places: the word of a key, and the rules by which a key chooses its buckets.
-pub mod builtin;
 pub mod choices;
 pub mod digits;
-pub mod examples;
 pub mod rule;
 pub mod two;
 pub mod word;
 pub mod xor;
 
-pub use builtin::Builtin;
-pub use builtin::BuiltinRule;
-pub use builtin::RuleName;
 pub use choices::Choices;
 pub use digits::DigitCount;
 pub use digits::Digits;

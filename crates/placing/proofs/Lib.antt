@@ -1,3 +1,2 @@
-mod Spreads
 mod Shown
 mod Lines

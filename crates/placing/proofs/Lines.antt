@@ -10,7 +10,7 @@ use Rattle.keys.specs.declared.refusal.Refusal.{Refusal}
 use Rattle.places.specs.Words.{fnv}
 use Rattle.placing.specs.Answers.{answerText, Kept}
 use Rattle.placing.specs.Shown.{placeText}
-use Rattle.placing.specs.Spreads.{Noted}
+use Rattle.spread.specs.Spreads.{Noted}
 
 pub text-of-key : (text places : Key → List ℕ) (z : ℕ) (r : Result Key Refusal) (k : Key) (h : ℕ) (bs old mid new : List ℕ) → r ≡ Ok k → h ≡ fnv z k → bs ≡ places k → mid ≡ old ++ placeText (text k) h bs → new ≡ mid ++ 10 ∷ [] → new ≡ old ++ answerText text places z r
 text-of-key text places z r k h bs old mid new e f g p q =

@@ -13,7 +13,7 @@ use Rattle.keys.specs.declared.refusal.Refusal.{Refusal}
 use Rattle.keys.specs.declared.refusal.Refusal.the-variants.{BadLine}
 use Rattle.places.specs.Words.{fnv}
 use Rattle.placing.specs.Shown.{placeText}
-use Rattle.placing.specs.Spreads.{Noted}
+use Rattle.spread.specs.Spreads.{Noted}
 
 -- the key that a line says; one that is too long says none
 abbrev pub lineKey : (List ℕ → Result Key Refusal) → Option (List ℕ) → Result Key Refusal

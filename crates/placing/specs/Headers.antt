@@ -8,8 +8,8 @@ use lib.ListN.{length, getD, drop}
 use Rattle.std.specs.declared.option.Option.{Option}
 use Rattle.std.specs.declared.option.Option.the-variants.{Some, None}
 use Rattle.std.specs.shelf.Text.{sameBytes}
-use Rattle.places.specs.declared.builtin.RuleName.{RuleName}
-use Rattle.places.specs.declared.builtin.RuleName.the-variants.{Two, Dig2, Dig3, Xor}
+use Rattle.rules.specs.declared.builtin.RuleName.{RuleName}
+use Rattle.rules.specs.declared.builtin.RuleName.the-variants.{Two, Dig2, Dig3, Xor}
 use Rattle.text.specs.Parts.{andThen, part}
 use Rattle.placing.specs.declared.header.Header.{Header}
 use Rattle.placing.specs.declared.header.KindName.{KindName}

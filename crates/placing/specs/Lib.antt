@@ -1,4 +1,3 @@
-pub mod Spreads
 pub mod Headers
 pub mod Settings
 pub mod Places

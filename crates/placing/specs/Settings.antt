@@ -8,8 +8,8 @@ use Rattle.std.specs.declared.result.Result.{Result}
 use Rattle.std.specs.declared.result.Result.the-variants.{Ok, Err}
 use Rattle.keys.specs.declared.refusal.Refusal.{Refusal}
 use Rattle.keys.specs.declared.refusal.Refusal.the-variants.{BadLine}
-use Rattle.places.specs.Builtins.{NameSize, Means}
-use Rattle.places.specs.Made.{MadeUnder}
+use Rattle.places.specs.Made.{MadeUnder, ChoosesBy}
+use Rattle.rules.specs.Builtins.{NameSize, nameChoices, builtinCount, builtinPlaces}
 use Rattle.placing.specs.Headers.{headerOf}
 use Rattle.placing.specs.declared.header.Header.{Header}
 use Rattle.placing.specs.declared.setting.Setting.{Setting}
@@ -21,7 +21,7 @@ pub record HeaderSize (h : Header) : Type 0 where
 
 -- the setting that a header asks for
 pub record Asked (h : Header) (s : Setting) : Type 0 where
-  pub rule : Means (h .rule) (h .buckets) (h .seed) (s .rule)
+  pub rule : ChoosesBy builtinCount builtinPlaces (nameChoices (h .rule)) (h .buckets) (h .seed) (s .rule)
   pub seed : s .seed ≡ h .seed
   pub kind : s .kind ≡ h .kind
 

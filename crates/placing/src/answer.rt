@@ -5,12 +5,13 @@ ghost use Rattle.std.specs.Of.Vec.{vec-items};
 ghost use Rattle.std.specs.Options.{mapped};
 ghost use Rattle.std.specs.Results.{isOk};
 ghost use Rattle.std.specs.Vec.{made};
+ghost use Rattle.spread.specs.Tally.{tally};
 ghost use Rattle.placing.specs.Answers.{lineKey, answerText, Kept};
 use crate::place::place;
 use crate::show::push_place;
-use crate::spread::Spread;
 use keys::RefusalDisplay;
 use places::Rule;
+use spread::Spread;
 use std::alloc::AllocError;
 use std::alloc::Global;
 use text::Spelled;
@@ -26,8 +27,7 @@ pub fn answer_line<K: Spelled, R: Rule<K>>(
 ) -> Result<bool, AllocError>
     ensures test { λ r. ⌜ made r (λ b. b ≡ isOk (lineKey (K·Spelled .reads) (mapped now (line .entry)))) ⌝ }
     ensures text { λ r. ⌜ made r (λ _. vec-items (now (out .exit)) ≡ vec-items (now (out .entry)) ++ answerText (K·Spelled .text) (R·Rule .places (now (rule .entry))) seed (lineKey (K·Spelled .reads) (mapped now (line .entry)))) ⌝ }
-    ensures counts { λ _. ⌜ Kept (R·Rule .places (now (rule .entry))) (lineKey (K·Spelled .reads) (mapped now (line .entry))) (now (spread .entry) .counts) (now (spread .exit) .counts) ⌝ }
-    ensures buckets { λ _. ⌜ now (spread .exit) .buckets ≡ now (spread .entry) .buckets ⌝ }
+    ensures counts { λ _. ⌜ Kept (R·Rule .places (now (rule .entry))) (lineKey (K·Spelled .reads) (mapped now (line .entry))) (tally (now (spread .entry))) (tally (now (spread .exit))) ⌝ }
 {
     match place::<K, R>(rule, seed, line) {
         Ok(placed) => {

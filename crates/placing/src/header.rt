@@ -2,10 +2,10 @@
 ghost use mathlib.Core.Path.{_≡_};
 ghost use Rattle.std.specs.Options.{mapped};
 ghost use Rattle.placing.specs.Headers.{ruleWord, kindWord, headerOf};
-use places::RuleName;
+use rules::RuleName;
 use text::cut;
 
-#[derive(Clone, Copy, PartialEq, Eq, Debug)]
+#[derive(Clone, Copy)]
 pub enum KindName {
     Flow,
     Name,

@@ -6,7 +6,7 @@ use crate::header::Header;
 use crate::header::KindName;
 use crate::header::read_header;
 use keys::Refusal;
-use places::Builtin;
+use rules::Builtin;
 
 #[derive(Clone, Copy)]
 pub struct Setting {

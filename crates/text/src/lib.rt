@@ -5,8 +5,6 @@ pub mod laws;
 pub mod numbers;
 pub mod parts;
 pub mod spelled;
-#[cfg(test)]
-mod tests;
 
 pub use display::ShownFlow;
 pub use display::ShownFlowDisplay;

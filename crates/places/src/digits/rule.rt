@@ -1,10 +1,10 @@
 // `dig2` and `dig3` made, and as place rules.
 ghost use mathlib.Core.Path.{_≡_};
 ghost use Rattle.places.specs.Choices.{listed};
-ghost use Rattle.places.specs.DigitCounts.{digits, digitChoices};
-ghost use Rattle.places.specs.Made.{MadeUnder};
+ghost use Rattle.places.specs.DigitCounts.{digitChoices};
+ghost use Rattle.places.specs.Made.{MadeUnder, ChoosesBy};
+ghost use Rattle.places.specs.Meanings.{digitsCount, digitsDegree, digitsPlaces};
 ghost use Rattle.places.specs.Rules.{DigitSize};
-ghost use Rattle.places.specs.Words.{fnv};
 use crate::choices::Choices;
 use crate::digits::DigitCount;
 use crate::digits::Digits;
@@ -16,7 +16,7 @@ use keys::Refusal;
 impl Digits {
     // The rule with 1 to 512 buckets.
     pub fn new(count: DigitCount, buckets: usize, seed: u32) -> Result<Digits, Refusal>
-        ensures { λ r. ⌜ MadeUnder (DigitSize buckets) (λ d. (d .count ≡ count) × (d .buckets ≡ buckets) × (d .seed ≡ seed)) r ⌝ }
+        ensures { λ r. ⌜ MadeUnder (DigitSize buckets) (ChoosesBy digitsCount digitsPlaces (digitChoices count) buckets seed) r ⌝ }
     {
         if buckets < 1 || buckets > 512 {
             return Err(Refusal::Size);
@@ -44,11 +44,11 @@ fn lowest(count: DigitCount, buckets: usize, word: u32) -> Choices
 }
 
 pub impl<K: Kind> Rule<K> for Digits as DigitsRule {
-    ghost count = { λ d. d .buckets };
+    ghost count = { digitsCount };
 
-    ghost degree = { λ d. digits (d .count) };
+    ghost degree = { digitsDegree };
 
-    ghost places = { λ d k. digitChoices (d .count) (d .buckets) (fnv (d .seed) k) };
+    ghost places = { digitsPlaces };
 
     fn buckets(&self) -> usize {
         self.buckets

@@ -1,9 +1,9 @@
 // `two` made, and as a place rule.
 ghost use mathlib.Core.Path.{_≡_};
 ghost use Rattle.places.specs.Choices.{listed};
-ghost use Rattle.places.specs.Made.{MadeUnder};
+ghost use Rattle.places.specs.Made.{MadeUnder, ChoosesBy};
+ghost use Rattle.places.specs.Meanings.{twoCount, twoPlaces};
 ghost use Rattle.places.specs.Rules.{TwoSize, twoChoices};
-ghost use Rattle.places.specs.Words.{fnv};
 use crate::choices::Choices;
 use crate::rule::Rule;
 use crate::two::Two;
@@ -14,7 +14,7 @@ use keys::Refusal;
 impl Two {
     // The rule with an even number of buckets, from 2 to 512.
     pub fn new(buckets: usize, seed: u32) -> Result<Two, Refusal>
-        ensures { λ r. ⌜ MadeUnder (TwoSize buckets) (λ t. (t .buckets ≡ buckets) × (t .seed ≡ seed)) r ⌝ }
+        ensures { λ r. ⌜ MadeUnder (TwoSize buckets) (ChoosesBy twoCount twoPlaces twoChoices buckets seed) r ⌝ }
     {
         if buckets < 2 || buckets > 512 || buckets % 2 != 0 {
             return Err(Refusal::Size);
@@ -33,11 +33,11 @@ fn halves(buckets: usize, word: u32) -> Choices
 }
 
 pub impl<K: Kind> Rule<K> for Two as TwoRule {
-    ghost count = { λ t. t .buckets };
+    ghost count = { twoCount };
 
     ghost degree = { λ _. 2 };
 
-    ghost places = { λ t k. twoChoices (t .buckets) (fnv (t .seed) k) };
+    ghost places = { twoPlaces };
 
     fn buckets(&self) -> usize {
         self.buckets

@@ -3,9 +3,9 @@ ghost use mathlib.Core.Path.{_≡_};
 ghost use Prim.Native.Nat.{ℕ, _^_, _≤_};
 ghost use Rattle.std.specs.Options.{Cases};
 ghost use Rattle.places.specs.Choices.{listed};
-ghost use Rattle.places.specs.Made.{MadeUnder};
+ghost use Rattle.places.specs.Made.{MadeUnder, ChoosesBy};
+ghost use Rattle.places.specs.Meanings.{xorCount, xorPlaces};
 ghost use Rattle.places.specs.Rules.{XorSize, xorChoices};
-ghost use Rattle.places.specs.Words.{fnv};
 use crate::choices::Choices;
 use crate::rule::Rule;
 use crate::word::fnv1a;
@@ -29,7 +29,7 @@ fn exponent_of(n: usize) -> Option<u32>
 impl Xor {
     // The rule with a power of two for the number of buckets, from 1 to 512.
     pub fn new(buckets: usize, seed: u32) -> Result<Xor, Refusal>
-        ensures { λ r. ⌜ MadeUnder (XorSize buckets) (λ x. (x .buckets ≡ buckets) × (x .seed ≡ seed)) r ⌝ }
+        ensures { λ r. ⌜ MadeUnder (XorSize buckets) (ChoosesBy xorCount xorPlaces xorChoices buckets seed) r ⌝ }
     {
         match exponent_of(buckets) {
             None => Err(Refusal::Size),
@@ -52,11 +52,11 @@ fn partners(buckets: usize, word: u32) -> Choices
 }
 
 pub impl<K: Kind> Rule<K> for Xor as XorRule {
-    ghost count = { λ x. x .buckets };
+    ghost count = { xorCount };
 
     ghost degree = { λ _. 2 };
 
-    ghost places = { λ x k. xorChoices (x .buckets) (fnv (x .seed) k) };
+    ghost places = { xorPlaces };
 
     fn buckets(&self) -> usize {
         self.buckets

@@ -7,6 +7,7 @@ use Rattle.std.specs.declared.result.Result.{Result}
 use Rattle.seating.specs.Layouts.{Key}
 use Rattle.keys.specs.declared.refusal.Refusal.{Refusal}
 use Rattle.places.specs.Choices.{listed}
+use Rattle.spread.specs.Tally.{tally}
 use Rattle.placing.specs.Answers.{lineKey}
 use Rattle.placing.proofs.Lines.{text-of-key, kept-of-key}
 use Rattle.placing.proofs.answer.answer_line.Needs as need
@@ -23,7 +24,6 @@ returns-in-Continue-push g c =
           (vec-items (c .args .out .now)) (vec-items (c .push-place .last .out)) (vec-items (c .push .last .self))
           (h .0) (h .1) (h .2) (c .in-Continue-push-place .ensures tt) (c .in-Continue-push .ensures tt .items);
       counts =
-          kept-of-key (g .R·Rule .places (c .args .rule .now)) r k (listed (c .in-Ok .placed .choices)) (c .args .spread .now .counts) (c .note .last .self .counts)
-          (h .0) (h .2) (c .note .ensures .counts);
-      buckets = c .note .ensures .buckets;
+          kept-of-key (g .R·Rule .places (c .args .rule .now)) r k (listed (c .in-Ok .placed .choices)) (tally (c .args .spread .now)) (tally (c .note .last .self))
+          (h .0) (h .2) (c .note .ensures);
     }

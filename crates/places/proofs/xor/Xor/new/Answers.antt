@@ -10,4 +10,4 @@ pub returns-in-Some : need.returns-in-Some
 returns-in-Some c =
     let k = c .in-Some .exponent in
     let h = c .in-Some .ensures tt in
-    ((k, h .1, power-few k (c .args .buckets) (h .0) (h .1)), (refl, refl))
+    ((k, h .1, power-few k (c .args .buckets) (h .0) (h .1)), record { sized = refl; chosen = λ k. refl })

@@ -1,7 +1,0 @@
-// The worked examples follow from the definitions.
-ghost use Rattle.places.specs.Examples.{ExamplesHold};
-
-// Every line of the table of examples holds.
-pub fn examples_hold()
-    ensures { λ _. ⌜ ExamplesHold ⌝ }
-{}

@@ -1,0 +1,3 @@
+// Examples, run.
+mod places;
+mod texts;

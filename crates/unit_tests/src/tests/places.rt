@@ -1,0 +1,201 @@
+// Keys and places on examples.
+use crate::by_bytes::ByBytes;
+use crate::by_bytes::ByBytesRule;
+use keys::Flow;
+use keys::FlowKind;
+use keys::Kind;
+use keys::Name;
+use keys::NameKind;
+use keys::NameRecord;
+use keys::Refusal;
+use keys::RefusalDisplay;
+use keys::refusal::RefusalDebug;
+use places::Choices;
+use places::Rule;
+use places::fnv1a;
+use rules::Builtin;
+use rules::BuiltinRule;
+use rules::RuleName;
+use std::test::*;
+
+// A text and its published FNV-1a word. The vector of the empty text is left out, since no key is
+// empty.
+struct Vector {
+    text: &'static [u8],
+    word: u32,
+}
+
+const PUBLISHED: [Vector; 11] = [
+    Vector {
+        text: b"a",
+        word: 0xe40c_292c,
+    },
+    Vector {
+        text: b"b",
+        word: 0xe70c_2de5,
+    },
+    Vector {
+        text: b"c",
+        word: 0xe60c_2c52,
+    },
+    Vector {
+        text: b"d",
+        word: 0xe10c_2473,
+    },
+    Vector {
+        text: b"e",
+        word: 0xe00c_22e0,
+    },
+    Vector {
+        text: b"f",
+        word: 0xe30c_2799,
+    },
+    Vector {
+        text: b"fo",
+        word: 0x6222_e842,
+    },
+    Vector {
+        text: b"foo",
+        word: 0xa9f3_7ed7,
+    },
+    Vector {
+        text: b"foob",
+        word: 0x3f50_76ef,
+    },
+    Vector {
+        text: b"fooba",
+        word: 0x39aa_a18a,
+    },
+    Vector {
+        text: b"foobar",
+        word: 0xbf9c_f968,
+    },
+];
+
+#[test]
+fn published_words() -> Result<(), Fail> {
+    for v in PUBLISHED.iter() {
+        let name = Name::new(v.text)?;
+        check_eq(fnv1a(0, &name), v.word)?;
+    }
+    Ok(())
+}
+
+#[test]
+fn seeded_words() -> Result<(), Fail> {
+    let name = Name::new(b"a")?;
+    check_eq(fnv1a(1, &name), 0xe50c_2abf)?;
+    let name = Name::new(b"foobar")?;
+    check_eq(fnv1a(0xffff_ffff, &name), 0x6ff7_12cb)
+}
+
+// Whether the rule is made with n buckets.
+fn made(name: RuleName, n: usize) -> bool {
+    Builtin::new(name, n, 0).is_ok()
+}
+
+#[test]
+fn sizes_at_their_edges() -> Result<(), Fail> {
+    check(made(RuleName::Two, 2) && made(RuleName::Two, 512))?;
+    check(!made(RuleName::Two, 0) && !made(RuleName::Two, 3) && !made(RuleName::Two, 514))?;
+    check(made(RuleName::Dig2, 1) && made(RuleName::Dig2, 512))?;
+    check(!made(RuleName::Dig2, 0) && !made(RuleName::Dig2, 513))?;
+    check(made(RuleName::Dig3, 1) && made(RuleName::Dig3, 512))?;
+    check(!made(RuleName::Dig3, 0) && !made(RuleName::Dig3, 513))?;
+    check(made(RuleName::Xor, 1) && made(RuleName::Xor, 512))?;
+    check(!made(RuleName::Xor, 0) && !made(RuleName::Xor, 6) && !made(RuleName::Xor, 1024))
+}
+
+// Whether the choices are just these buckets, in order.
+fn lists(choices: &Choices, buckets: &[usize]) -> bool {
+    for (j, b) in buckets.iter().enumerate() {
+        if choices.at(j) != *b {
+            return false;
+        }
+    }
+    choices.len() == buckets.len()
+}
+
+// The choices of a name under a rule with seed 0.
+fn chosen(name: RuleName, n: usize, text: &[u8]) -> Result<Choices, Refusal> {
+    let rule = Builtin::new(name, n, 0)?;
+    let key = Name::new(text)?;
+    Ok(rule.choices(&key))
+}
+
+#[test]
+fn choices_of_each_rule() -> Result<(), Fail> {
+    check(lists(&chosen(RuleName::Dig2, 4, b"a")?, &[0, 3]))?;
+    check(lists(&chosen(RuleName::Dig2, 4, b"b")?, &[1, 1]))?;
+    check(lists(&chosen(RuleName::Dig2, 3, b"a")?, &[1, 2]))?;
+    check(lists(&chosen(RuleName::Dig3, 4, b"a")?, &[0, 3, 2]))?;
+    check(lists(&chosen(RuleName::Two, 4, b"a")?, &[0, 2]))?;
+    check(lists(&chosen(RuleName::Xor, 4, b"b")?, &[1, 3]))
+}
+
+#[test]
+fn names_at_their_edges() -> Result<(), Fail> {
+    check(Name::new(b"").is_err() && Name::new(b"0123456789abcdef").is_err())?;
+    let long = Name::new(b"0123456789abcde")?;
+    check_eq(long.len(), 15)?;
+    check_eq(long.byte(14), b'e')?;
+    check_eq(long.byte(15), 0)?;
+    let any = Name::new(&[0, 255, 10])?;
+    check(any.same(&Name::new(&[0, 255, 10])?) && !any.same(&Name::new(&[0, 255])?))
+}
+
+#[test]
+fn records_of_names() -> Result<(), Fail> {
+    let name = Name::new(b"ab")?;
+    let mut record = name.record();
+    let Some(back) = NameKind::restore(record) else {
+        return Err(Fail::new("the record of a name fails"));
+    };
+    check(back.same(&name))?;
+    record.text[14] = 1;
+    check(NameKind::restore(record).is_none())?;
+    let text = [0; 15];
+    check(NameKind::restore(NameRecord { text, len: 0 }).is_none())?;
+    check(NameKind::restore(NameRecord { text, len: 16 }).is_none())?;
+    check(NameKind::restore(NameRecord { text, len: 15 }).is_some())
+}
+
+#[test]
+fn bytes_of_a_flow() -> Result<(), Fail> {
+    let flow = Flow {
+        source: 0x0a00_0001,
+        destination: 0x0a00_0002,
+        source_port: 0x0150,
+        destination_port: 81,
+        protocol: 6,
+    };
+    let bytes = [10, 0, 0, 1, 10, 0, 0, 2, 1, 0x50, 0, 81, 6];
+    for (i, b) in bytes.iter().enumerate() {
+        check_eq(flow.byte(i), *b)?;
+    }
+    check_eq(flow.byte(13), 0)?;
+    check_eq(flow.len(), 13)?;
+    check(
+        FlowKind::restore(flow.record())
+            .ok_or("no flow")?
+            .same(&flow),
+    )
+}
+
+#[test]
+fn rule_of_a_customer() -> Result<(), Fail> {
+    let rule = ByBytes::new(100)?;
+    let name = Name::new(&[7, 213, 9])?;
+    check(lists(&rule.choices(&name), &[7, 13]))?;
+    let short = Name::new(&[7])?;
+    check(lists(&rule.choices(&short), &[7, 0]))?;
+    check(ByBytes::new(0).is_err() && ByBytes::new(513).is_err())
+}
+
+#[test]
+fn texts_of_refusals(rt: LibcRuntime) -> Result<(), Fail> {
+    let heap = rt.alloc();
+    check(Refusal::NameLength.to_string(heap)?.as_str() == "refused 7")?;
+    check(Refusal::Full(5).to_string(heap)?.as_str() == "refused 4 5")?;
+    check_eq(Refusal::OutOfTurn.number(), 9)
+}
