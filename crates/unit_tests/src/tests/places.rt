@@ -89,21 +89,34 @@ fn seeded_words() -> Result<(), Fail> {
     check_eq(fnv1a(0xffff_ffff, &name), 0x6ff7_12cb)
 }
 
-// Whether the rule is made with n buckets.
-fn made(name: RuleName, n: usize) -> bool {
-    Builtin::new(name, n, 0).is_ok()
-}
+// A rule, a number of buckets, and whether the rule is made with it.
+const EDGES: [(RuleName, usize, bool); 18] = [
+    (RuleName::Two, 0, false),
+    (RuleName::Two, 2, true),
+    (RuleName::Two, 3, false),
+    (RuleName::Two, 512, true),
+    (RuleName::Two, 514, false),
+    (RuleName::Dig2, 0, false),
+    (RuleName::Dig2, 1, true),
+    (RuleName::Dig2, 512, true),
+    (RuleName::Dig2, 513, false),
+    (RuleName::Dig3, 0, false),
+    (RuleName::Dig3, 1, true),
+    (RuleName::Dig3, 512, true),
+    (RuleName::Dig3, 513, false),
+    (RuleName::Xor, 0, false),
+    (RuleName::Xor, 1, true),
+    (RuleName::Xor, 6, false),
+    (RuleName::Xor, 512, true),
+    (RuleName::Xor, 1024, false),
+];
 
 #[test]
 fn sizes_at_their_edges() -> Result<(), Fail> {
-    check(made(RuleName::Two, 2) && made(RuleName::Two, 512))?;
-    check(!made(RuleName::Two, 0) && !made(RuleName::Two, 3) && !made(RuleName::Two, 514))?;
-    check(made(RuleName::Dig2, 1) && made(RuleName::Dig2, 512))?;
-    check(!made(RuleName::Dig2, 0) && !made(RuleName::Dig2, 513))?;
-    check(made(RuleName::Dig3, 1) && made(RuleName::Dig3, 512))?;
-    check(!made(RuleName::Dig3, 0) && !made(RuleName::Dig3, 513))?;
-    check(made(RuleName::Xor, 1) && made(RuleName::Xor, 512))?;
-    check(!made(RuleName::Xor, 0) && !made(RuleName::Xor, 6) && !made(RuleName::Xor, 1024))
+    for (name, buckets, made) in EDGES {
+        check(Builtin::new(name, buckets, 0).is_ok() == made)?;
+    }
+    Ok(())
 }
 
 // Whether the choices are just these buckets, in order.

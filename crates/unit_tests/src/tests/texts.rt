@@ -7,34 +7,108 @@ use text::Spelled;
 use text::read_flow;
 use text::read_number;
 
+// A text and the number that it writes; 1 stands for none.
+struct Numeral {
+    text: &'static [u8],
+    number: u64,
+}
+
+const NUMERALS: [Numeral; 9] = [
+    Numeral {
+        text: b"0",
+        number: 0,
+    },
+    Numeral {
+        text: b"407",
+        number: 407,
+    },
+    Numeral {
+        text: b"999999999999999999",
+        number: 999_999_999_999_999_999,
+    },
+    Numeral {
+        text: b"1000000000000000000",
+        number: 1,
+    },
+    Numeral {
+        text: b"00",
+        number: 1,
+    },
+    Numeral {
+        text: b"007",
+        number: 1,
+    },
+    Numeral {
+        text: b"",
+        number: 1,
+    },
+    Numeral {
+        text: b"+1",
+        number: 1,
+    },
+    Numeral {
+        text: b"1a",
+        number: 1,
+    },
+];
+
 #[test]
 fn numbers() -> Result<(), Fail> {
-    check_eq(read_number(b"0"), Some(0))?;
-    check_eq(read_number(b"407"), Some(407))?;
-    check_eq(
-        read_number(b"999999999999999999"),
-        Some(999_999_999_999_999_999),
-    )?;
-    check_eq(read_number(b"1000000000000000000"), None)?;
-    check_eq(read_number(b"00"), None)?;
-    check_eq(read_number(b"007"), None)?;
-    check_eq(read_number(b""), None)?;
-    check_eq(read_number(b"+1"), None)?;
-    check_eq(read_number(b"1a"), None)
+    for n in NUMERALS.iter() {
+        check_eq(read_number(n.text).unwrap_or(1), n.number)?;
+    }
+    Ok(())
+}
+
+// Texts that are those of no flow.
+const NO_FLOW: [&[u8]; 9] = [
+    b"10.0.0.256:80>10.0.0.2:81/6",
+    b"10.0.0.1:65536>10.0.0.2:81/6",
+    b"10.0.0.1:80>10.0.0.2:81/256",
+    b"01.0.0.1:80>10.0.0.2:81/6",
+    b"10.0.0:80>10.0.0.2:81/6",
+    b"10.0.0.1:80>10.0.0.2:81",
+    b"10.0.0.1:80>10.0.0.2:81/6 ",
+    b"10.0.0.1.1:80>10.0.0.2:81/6",
+    b"",
+];
+
+#[test]
+fn no_flow() -> Result<(), Fail> {
+    for text in NO_FLOW.iter() {
+        check(read_flow(text).is_none())?;
+    }
+    Ok(())
+}
+
+// Texts of flows at their limits.
+const FLOWS: [&[u8]; 3] = [
+    b"10.0.0.1:80>10.0.0.2:81/6",
+    b"0.0.0.0:0>0.0.0.0:0/0",
+    b"255.255.255.255:65535>255.255.255.255:65535/255",
+];
+
+#[test]
+fn flows_written_as_read(rt: LibcRuntime) -> Result<(), Fail> {
+    let heap = rt.alloc();
+    for text in FLOWS.iter() {
+        let Some(flow) = read_flow(text) else {
+            return Err(Fail::new("not read"));
+        };
+        let mut out = Vec::new(heap);
+        flow.write(heap, &mut out)?;
+        check(out.as_slice() == *text)?;
+    }
+    Ok(())
 }
 
 #[test]
-fn a_flow(rt: LibcRuntime) -> Result<(), Fail> {
-    let text = b"10.0.0.1:80>10.0.0.2:81/6";
-    let flow = read_flow(text).ok_or("not read")?;
-    check_eq(flow.source, 0x0a00_0001)?;
-    check_eq(flow.destination, 0x0a00_0002)?;
-    check_eq(flow.source_port, 80)?;
-    check_eq(flow.destination_port, 81)?;
-    check_eq(flow.protocol, 6)?;
-    let mut out = Vec::new(rt.alloc());
-    flow.write(rt.alloc(), &mut out)?;
-    check(out.as_slice() == text)
+fn a_flow() -> Result<(), Fail> {
+    let Some(flow) = read_flow(b"10.0.0.1:80>10.0.0.2:81/6") else {
+        return Err(Fail::new("not read"));
+    };
+    check(flow.source == 0x0a00_0001 && flow.destination == 0x0a00_0002)?;
+    check(flow.source_port == 80 && flow.destination_port == 81 && flow.protocol == 6)
 }
 
 #[test]
@@ -44,18 +118,5 @@ fn a_name(rt: LibcRuntime) -> Result<(), Fail> {
     };
     let mut out = Vec::new(rt.alloc());
     name.write(rt.alloc(), &mut out)?;
-    check(out.as_slice() == b"web-1")?;
-    check(Name::read(b"").is_err())
-}
-
-#[test]
-fn no_flow() -> Result<(), Fail> {
-    check(read_flow(b"10.0.0.256:80>10.0.0.2:81/6").is_none())?;
-    check(read_flow(b"10.0.0.1:65536>10.0.0.2:81/6").is_none())?;
-    check(read_flow(b"10.0.0.1:80>10.0.0.2:81/256").is_none())?;
-    check(read_flow(b"01.0.0.1:80>10.0.0.2:81/6").is_none())?;
-    check(read_flow(b"10.0.0:80>10.0.0.2:81/6").is_none())?;
-    check(read_flow(b"10.0.0.1:80>10.0.0.2:81").is_none())?;
-    check(read_flow(b"10.0.0.1:80>10.0.0.2:81/6 ").is_none())?;
-    check(read_flow(b"").is_none())
+    check(out.as_slice() == b"web-1" && Name::read(b"").is_err())
 }
