@@ -12,6 +12,7 @@ use placing::answer_line;
 use placing::read_setting;
 use rules::BuiltinRule;
 use spread::Spread;
+use spread::Summary;
 use std::alloc::Global;
 use std::io;
 use std::io::BufRead;
@@ -41,18 +42,19 @@ fn first_setting<F: BufRead, W: Write>(from: &mut F, out: &mut W) -> io::Result<
 
 // What was done, in numbers.
 fn report<W: Write>(spread: &Spread, placed: u64, refused: u64, out: &mut W) -> io::Result<()> {
-    let buckets = spread.buckets();
-    let idle = spread.idle();
-    let top = spread.busiest();
-    let bucket = top.bucket;
-    let keys = top.keys;
-    let mean = spread.mean_hundredths();
+    let Summary {
+        buckets,
+        idle,
+        busiest,
+        keys,
+        mean,
+    } = spread.summary();
     let whole = mean / 100;
     let tenth = mean / 10 % 10;
     let hundredth = mean % 10;
     writeln!(out, "placed {placed} keys, refused {refused} lines")?;
     writeln!(out, "{buckets} buckets, {idle} of them chosen by no key")?;
-    writeln!(out, "most chosen: bucket {bucket}, by {keys} keys")?;
+    writeln!(out, "most chosen: bucket {busiest}, by {keys} keys")?;
     writeln!(out, "mean: {whole}.{tenth}{hundredth} keys a bucket")
 }
 

@@ -10,13 +10,13 @@ ghost use Rattle.lines.specs.Said.{said, SaysLine};
 use std::io;
 use std::io::BufRead;
 
-pub mod line;
+mod line;
 
 pub use line::Line;
 
 // What a piece of input does to the line that is read.
 #[derive(Clone, Copy)]
-pub enum Piece {
+enum Piece {
     // the input is at its end
     End,
     // the line is complete, and so many bytes of the piece are used
@@ -26,7 +26,7 @@ pub enum Piece {
 }
 
 // Takes the bytes of the piece up to its first line feed into the line.
-pub fn take_piece(line: &mut Line, piece: &[u8]) -> Piece
+fn take_piece(line: &mut Line, piece: &[u8]) -> Piece
     ensures value { λ r. ⌜ r ≡ pieceOf (now (piece .entry)) ⌝ }
     ensures after { λ _. ⌜ ((bs : List ℕ) → said (now (line .entry)) ≡ lineText bs → said (now (line .exit)) ≡ lineText (bs ++ untilFeed (now (piece .entry)))) ⌝ }
 {

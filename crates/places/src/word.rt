@@ -26,7 +26,7 @@ pub fn fnv1a<K: Kind>(seed: u32, key: &K) -> u32
 }
 
 // The same of a single byte, with seed 0.
-pub fn fnv1a_byte(byte: u8) -> u32
+pub(crate) fn fnv1a_byte(byte: u8) -> u32
     ensures { λ r. ⌜ r ≡ fnv 0 (byte ∷ []) ⌝ }
 {
     step(OFFSET, byte)

@@ -10,7 +10,7 @@ use Rattle.std.specs.declared.option.Option.the-variants.{Some, None}
 use Rattle.std.specs.shelf.Text.{sameBytes}
 use Rattle.rules.specs.declared.builtin.RuleName.{RuleName}
 use Rattle.rules.specs.declared.builtin.RuleName.the-variants.{Two, Dig2, Dig3, Xor}
-use Rattle.text.specs.Parts.{andThen, part}
+use Rattle.numerals.specs.Parts.{andThen, part}
 use Rattle.placing.specs.declared.header.Header.{Header}
 use Rattle.placing.specs.declared.header.KindName.{KindName}
 use Rattle.placing.specs.declared.header.KindName.the-variants.{Flow, Name}

@@ -2,8 +2,8 @@
 ghost use mathlib.Core.Path.{_≡_};
 ghost use Rattle.std.specs.Options.{mapped};
 ghost use Rattle.placing.specs.Headers.{ruleWord, kindWord, headerOf};
+use numerals::cut;
 use rules::RuleName;
-use text::cut;
 
 #[derive(Clone, Copy)]
 pub enum KindName {
@@ -48,7 +48,7 @@ fn kind_word(s: &[u8]) -> Option<KindName>
 }
 
 // What a first line says, if it has the form of one.
-pub fn read_header(s: &[u8]) -> Option<Header>
+pub(crate) fn read_header(s: &[u8]) -> Option<Header>
     ensures { λ r. ⌜ r ≡ headerOf (now (s .entry)) ⌝ }
 {
     let (rule, s) = rule_word(s)?;

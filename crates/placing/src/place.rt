@@ -17,7 +17,7 @@ pub struct Placed<K> {
 }
 
 // Reads the key that a line says, and places it. A line that is too long says none.
-pub fn place<K: Spelled, R: Rule<K>>(
+pub(crate) fn place<K: Spelled, R: Rule<K>>(
     rule: &R,
     seed: u32,
     line: Option<&[u8]>,

@@ -57,7 +57,7 @@ fn push_choices(heap: Global, choices: &Choices, out: &mut Vec<u8>) -> Result<()
 }
 
 // Appends the text of a key, its word and its choices.
-pub fn push_place<K: Spelled>(
+pub(crate) fn push_place<K: Spelled>(
     heap: Global,
     key: &K,
     word: u32,

@@ -1,2 +1,3 @@
 pub mod Spreads
 pub mod Tally
+pub mod Summaries

@@ -2,4 +2,4 @@
 pub mod spread;
 
 pub use spread::Spread;
-pub use spread::Top;
+pub use spread::Summary;

@@ -6,7 +6,7 @@ ghost use lib.ListN.{length};
 mod notes;
 mod reports;
 
-pub use reports::Top;
+pub use reports::Summary;
 
 // Of the counts, the first ones are those of the buckets; the others stay zero.
 #[derive(Drop)]

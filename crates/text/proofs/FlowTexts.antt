@@ -17,9 +17,9 @@ use Rattle.keys.specs.Flows.{flowBytes}
 use Rattle.keys.specs.declared.flow.Flow.{Flow}
 use Rattle.text.specs.FlowText.{addressText, flowText, address, endpoint, flowFrom}
 use Rattle.text.specs.Laws.{FlowKey, FlowsReadBack, FlowsExact}
-use Rattle.text.specs.Numbers.{digit}
-use Rattle.text.specs.Parts.{below, part}
-use Rattle.text.proofs.Cuts.{Says, some-says, then-says, below-back, part-back, below-says, part-says}
+use Rattle.numerals.specs.Numbers.{digit}
+use Rattle.numerals.specs.Parts.{below, part}
+use Rattle.numerals.proofs.Cuts.{Says, some-says, then-says, below-back, part-back, below-says, part-says}
 
 -- each is a byte
 abbrev Octets : List ℕ → Type 0

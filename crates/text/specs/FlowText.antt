@@ -8,7 +8,7 @@ use Rattle.std.specs.declared.option.Option.{Option}
 use Rattle.std.specs.declared.option.Option.the-variants.{Some}
 use Rattle.seating.specs.Layouts.{Key}
 use Rattle.keys.specs.Bytes.{two}
-use Rattle.text.specs.Parts.{andThen, below, part}
+use Rattle.numerals.specs.Parts.{andThen, below, part}
 
 -- four numbers parted by dots
 abbrev pub addressText : ℕ → ℕ → ℕ → ℕ → List ℕ

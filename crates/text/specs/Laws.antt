@@ -1,22 +1,12 @@
--- What the texts of numbers and flows come to.
+-- What the texts of flows come to.
 use mathlib.Core.Path.{_≡_}
 use mathlib.Core.List.{List}
-use Prim.Native.Nat.{ℕ, _^_, _<_}
+use Prim.Native.Nat.{ℕ, _<_}
 use lib.ListN.{length}
-use Rattle.std.specs.Written.{decimal}
 use Rattle.std.specs.declared.option.Option.the-variants.{Some}
 use Rattle.std.specs.shelf.Lists.{All}
 use Rattle.seating.specs.Layouts.{Key}
 use Rattle.text.specs.FlowText.{flowText, flowFrom}
-use Rattle.text.specs.Numbers.{number}
-
--- a number that is written and read is that number
-abbrev pub NumbersReadBack : Type 0
-NumbersReadBack = (n : ℕ) → n < 10 ^ 18 → number (decimal n) ≡ Some n
-
--- what is read as a number is the text of that number, and there is no other
-abbrev pub NumbersExact : Type 0
-NumbersExact = (s : List ℕ) (n : ℕ) → number s ≡ Some n → (n < 10 ^ 18) × (decimal n ≡ s)
 
 -- a flow's key has 13 bytes
 pub record FlowKey (k : Key) : Type 0 where

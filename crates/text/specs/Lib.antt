@@ -1,4 +1,2 @@
-pub mod Numbers
-pub mod Parts
 pub mod FlowText
 pub mod Laws

@@ -5,10 +5,10 @@ ghost use Rattle.std.specs.Options.{mapped};
 ghost use Rattle.keys.specs.Bytes.{four};
 ghost use Rattle.keys.specs.Flows.{flowBytes};
 ghost use Rattle.text.specs.FlowText.{address, endpoint, flowFrom};
-ghost use Rattle.text.specs.Parts.{part};
-use crate::parts::bounded;
-use crate::parts::cut;
+ghost use Rattle.numerals.specs.Parts.{part};
 use keys::Flow;
+use numerals::bounded;
+use numerals::cut;
 
 // A byte up to the mark, and what stands behind it.
 fn octet<'a>(s: &'a [u8], mark: u8) -> Option<(u8, &'a [u8])>

@@ -1,15 +1,5 @@
-// What is proved of the texts themselves: each theorem is the contract of a function.
-ghost use Rattle.text.specs.Laws.{NumbersReadBack, NumbersExact, FlowsReadBack, FlowsExact};
-
-// A number below 10 ^ 18 that is written and read is that number.
-pub fn numbers_read_back()
-    ensures { λ _. ⌜ NumbersReadBack ⌝ }
-{}
-
-// Each number has one text: a text that is read is what is written of the number.
-pub fn numbers_exact()
-    ensures { λ _. ⌜ NumbersExact ⌝ }
-{}
+// What is proved of the texts of flows: each theorem is the contract of a function.
+ghost use Rattle.text.specs.Laws.{FlowsReadBack, FlowsExact};
 
 // A flow that is written and read is that flow.
 pub fn flows_read_back()

@@ -1,16 +1,12 @@
-// Text of numbers and keys.
+// Text of keys.
 pub mod display;
 pub mod flows;
 pub mod laws;
-pub mod numbers;
-pub mod parts;
 pub mod spelled;
 
 pub use display::ShownFlow;
 pub use display::ShownFlowDisplay;
 pub use flows::read_flow;
-pub use numbers::read_number;
-pub use parts::cut;
 pub use spelled::FlowSpelled;
 pub use spelled::NameSpelled;
 pub use spelled::Spelled;

@@ -9,7 +9,7 @@ use crate::line::Line;
 
 impl Line {
     // A line with no byte yet.
-    pub fn new() -> Line
+    pub(crate) fn new() -> Line
         ensures { λ r. ⌜ said r ≡ lineText [] ⌝ }
     {
         Line {
@@ -20,7 +20,7 @@ impl Line {
     }
 
     // One byte more.
-    pub fn push(&mut self, b: u8)
+    pub(crate) fn push(&mut self, b: u8)
         ensures { λ _. ⌜ ((bs : List ℕ) → said (now (self .entry)) ≡ lineText bs → said (now (self .exit)) ≡ lineText (bs ++ b ∷ [])) ⌝ }
     {
         if self.len < 128 {

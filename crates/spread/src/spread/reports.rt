@@ -1,9 +1,10 @@
 // What was noted, told in numbers.
 ghost use mathlib.Core.Path.{_≡_};
-ghost use Prim.Native.Nat.{_*_, _/_, _^_, _<_, _≤_};
-ghost use lib.ListN.{length, getD};
+ghost use Prim.Native.Nat.{_*_, _^_, _<_, _≤_};
+ghost use lib.ListN.{length};
 ghost use Rattle.std.specs.shelf.Lists.{sum};
 ghost use Rattle.spread.specs.Spreads.{idle, Busiest};
+ghost use Rattle.spread.specs.Summaries.{Tells};
 ghost use Rattle.spread.specs.Tally.{tally};
 use crate::spread::Spread;
 
@@ -46,45 +47,32 @@ fn total(counts: &[u64]) -> u128
     n
 }
 
-// A bucket, and how many keys chose it.
+// What was noted, in numbers.
 #[derive(Clone, Copy)]
-pub struct Top {
-    pub bucket: usize,
+pub struct Summary {
+    pub buckets: usize,
+    // how many buckets no key chose
+    pub idle: usize,
+    // the most chosen bucket, the lowest of several, and how many keys chose it
+    pub busiest: usize,
     pub keys: u64,
+    // how many keys chose a bucket on average, in hundredths
+    pub mean: u128,
 }
 
 impl Spread {
-    // How many buckets there are.
-    pub fn buckets(&self) -> usize
-        ensures { λ r. ⌜ r ≡ length (tally (now (self .entry))) ⌝ }
-    {
-        self.buckets
-    }
-
-    // How many buckets were chosen by no key.
-    pub fn idle(&self) -> usize
-        ensures { λ r. ⌜ r ≡ idle (tally (now (self .entry))) ⌝ }
-    {
-        zeros(&self.counts[0..self.buckets])
-    }
-
-    // The most chosen bucket, the lowest of several.
-    pub fn busiest(&self) -> Top
-        ensures bucket { λ r. ⌜ Busiest (tally (now (self .entry))) (r .bucket) ⌝ }
-        ensures keys { λ r. ⌜ r .keys ≡ getD (tally (now (self .entry))) (r .bucket) 0 ⌝ }
+    // What was noted so far, in numbers.
+    pub fn summary(&self) -> Summary
+        ensures { λ r. ⌜ Tells (tally (now (self .entry))) r ⌝ }
     {
         let counts = &self.counts[0..self.buckets];
-        let bucket = largest(counts);
-        Top {
-            bucket,
-            keys: counts[bucket],
+        let busiest = largest(counts);
+        Summary {
+            buckets: self.buckets,
+            idle: zeros(counts),
+            busiest,
+            keys: counts[busiest],
+            mean: total(counts) * 100 / self.buckets as u128,
         }
-    }
-
-    // How many keys chose a bucket on average, in hundredths.
-    pub fn mean_hundredths(&self) -> u128
-        ensures { λ r. ⌜ r ≡ sum (tally (now (self .entry))) * 100 / length (tally (now (self .entry))) ⌝ }
-    {
-        total(&self.counts[0..self.buckets]) * 100 / self.buckets as u128
     }
 }

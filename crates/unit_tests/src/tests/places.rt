@@ -9,7 +9,6 @@ use keys::NameKind;
 use keys::NameRecord;
 use keys::Refusal;
 use keys::RefusalDisplay;
-use keys::refusal::RefusalDebug;
 use places::Choices;
 use places::Rule;
 use places::fnv1a;
@@ -72,10 +71,17 @@ const PUBLISHED: [Vector; 11] = [
     },
 ];
 
+fn named(text: &[u8]) -> Result<Name, Fail> {
+    match Name::new(text) {
+        Ok(name) => Ok(name),
+        Err(_) => Err(Fail::new("no name")),
+    }
+}
+
 #[test]
 fn published_words() -> Result<(), Fail> {
     for v in PUBLISHED.iter() {
-        let name = Name::new(v.text)?;
+        let name = named(v.text)?;
         check_eq(fnv1a(0, &name), v.word)?;
     }
     Ok(())
@@ -83,9 +89,9 @@ fn published_words() -> Result<(), Fail> {
 
 #[test]
 fn seeded_words() -> Result<(), Fail> {
-    let name = Name::new(b"a")?;
+    let name = named(b"a")?;
     check_eq(fnv1a(1, &name), 0xe50c_2abf)?;
-    let name = Name::new(b"foobar")?;
+    let name = named(b"foobar")?;
     check_eq(fnv1a(0xffff_ffff, &name), 0x6ff7_12cb)
 }
 
@@ -130,9 +136,11 @@ fn lists(choices: &Choices, buckets: &[usize]) -> bool {
 }
 
 // The choices of a name under a rule with seed 0.
-fn chosen(name: RuleName, n: usize, text: &[u8]) -> Result<Choices, Refusal> {
-    let rule = Builtin::new(name, n, 0)?;
-    let key = Name::new(text)?;
+fn chosen(name: RuleName, n: usize, text: &[u8]) -> Result<Choices, Fail> {
+    let Ok(rule) = Builtin::new(name, n, 0) else {
+        return Err(Fail::new("no rule"));
+    };
+    let key = named(text)?;
     Ok(rule.choices(&key))
 }
 
@@ -149,17 +157,17 @@ fn choices_of_each_rule() -> Result<(), Fail> {
 #[test]
 fn names_at_their_edges() -> Result<(), Fail> {
     check(Name::new(b"").is_err() && Name::new(b"0123456789abcdef").is_err())?;
-    let long = Name::new(b"0123456789abcde")?;
+    let long = named(b"0123456789abcde")?;
     check_eq(long.len(), 15)?;
     check_eq(long.byte(14), b'e')?;
     check_eq(long.byte(15), 0)?;
-    let any = Name::new(&[0, 255, 10])?;
-    check(any.same(&Name::new(&[0, 255, 10])?) && !any.same(&Name::new(&[0, 255])?))
+    let any = named(&[0, 255, 10])?;
+    check(any.same(&named(&[0, 255, 10])?) && !any.same(&named(&[0, 255])?))
 }
 
 #[test]
 fn records_of_names() -> Result<(), Fail> {
-    let name = Name::new(b"ab")?;
+    let name = named(b"ab")?;
     let mut record = name.record();
     let Some(back) = NameKind::restore(record) else {
         return Err(Fail::new("the record of a name fails"));
@@ -197,10 +205,12 @@ fn bytes_of_a_flow() -> Result<(), Fail> {
 
 #[test]
 fn rule_of_a_customer() -> Result<(), Fail> {
-    let rule = ByBytes::new(100)?;
-    let name = Name::new(&[7, 213, 9])?;
+    let Ok(rule) = ByBytes::new(100) else {
+        return Err(Fail::new("no rule"));
+    };
+    let name = named(&[7, 213, 9])?;
     check(lists(&rule.choices(&name), &[7, 13]))?;
-    let short = Name::new(&[7])?;
+    let short = named(&[7])?;
     check(lists(&rule.choices(&short), &[7, 0]))?;
     check(ByBytes::new(0).is_err() && ByBytes::new(513).is_err())
 }

@@ -1,11 +1,11 @@
 // Texts that are read and written, and texts that are refused.
 use keys::Name;
+use numerals::read_number;
 use std::test::*;
 use text::FlowSpelled;
 use text::NameSpelled;
 use text::Spelled;
 use text::read_flow;
-use text::read_number;
 
 // A text and the number that it writes; 1 stands for none.
 struct Numeral {

@@ -1,6 +1,0 @@
--- A text that is read is the text of the number.
-use Rattle.text.proofs.Digits.{numbers-exact}
-use Rattle.text.proofs.laws.numbers_exact.Needs as need
-
-pub returns : need.returns
-returns c = numbers-exact

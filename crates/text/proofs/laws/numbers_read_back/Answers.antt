@@ -1,6 +1,0 @@
--- A number that is written is read.
-use Rattle.text.proofs.Digits.{numbers-read-back}
-use Rattle.text.proofs.laws.numbers_read_back.Needs as need
-
-pub returns : need.returns
-returns c = numbers-read-back
