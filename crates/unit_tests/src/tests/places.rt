@@ -135,50 +135,55 @@ fn lists(choices: &Choices, buckets: &[usize]) -> bool {
     choices.len() == buckets.len()
 }
 
-// The choices of a name under a rule with seed 0.
-fn chosen(name: RuleName, n: usize, text: &[u8]) -> Result<Choices, Fail> {
-    let Ok(rule) = Builtin::new(name, n, 0) else {
-        return Err(Fail::new("no rule"));
-    };
-    let key = named(text)?;
-    Ok(rule.choices(&key))
-}
+// A rule, its number of buckets, a name, and the choices of the name with seed 0.
+const CHOSEN: [(RuleName, usize, &[u8], &[usize]); 6] = [
+    (RuleName::Dig2, 4, b"a", &[0, 3]),
+    (RuleName::Dig2, 4, b"b", &[1, 1]),
+    (RuleName::Dig2, 3, b"a", &[1, 2]),
+    (RuleName::Dig3, 4, b"a", &[0, 3, 2]),
+    (RuleName::Two, 4, b"a", &[0, 2]),
+    (RuleName::Xor, 4, b"b", &[1, 3]),
+];
 
 #[test]
 fn choices_of_each_rule() -> Result<(), Fail> {
-    check(lists(&chosen(RuleName::Dig2, 4, b"a")?, &[0, 3]))?;
-    check(lists(&chosen(RuleName::Dig2, 4, b"b")?, &[1, 1]))?;
-    check(lists(&chosen(RuleName::Dig2, 3, b"a")?, &[1, 2]))?;
-    check(lists(&chosen(RuleName::Dig3, 4, b"a")?, &[0, 3, 2]))?;
-    check(lists(&chosen(RuleName::Two, 4, b"a")?, &[0, 2]))?;
-    check(lists(&chosen(RuleName::Xor, 4, b"b")?, &[1, 3]))
+    for (name, n, text, buckets) in CHOSEN {
+        let Ok(rule) = Builtin::new(name, n, 0) else {
+            return Err(Fail::new("no rule"));
+        };
+        check(lists(&rule.choices(&named(text)?), buckets))?;
+    }
+    Ok(())
 }
 
 #[test]
-fn names_at_their_edges() -> Result<(), Fail> {
-    check(Name::new(b"").is_err() && Name::new(b"0123456789abcdef").is_err())?;
-    let long = named(b"0123456789abcde")?;
-    check_eq(long.len(), 15)?;
-    check_eq(long.byte(14), b'e')?;
-    check_eq(long.byte(15), 0)?;
-    let any = named(&[0, 255, 10])?;
-    check(any.same(&named(&[0, 255, 10])?) && !any.same(&named(&[0, 255])?))
+fn lengths_of_names() -> Result<(), Fail> {
+    let text = b"0123456789abcdef";
+    for n in 0..17usize {
+        check(Name::new(&text[0..n]).is_ok() == (1 <= n && n <= 15))?;
+    }
+    Ok(())
+}
+
+#[test]
+fn bytes_of_a_name() -> Result<(), Fail> {
+    let name = named(&[0, 255, 10])?;
+    check(name.len() == 3 && name.byte(1) == 255 && name.byte(3) == 0)?;
+    check(name.same(&named(&[0, 255, 10])?))?;
+    check(!name.same(&named(&[0, 255])?))
 }
 
 #[test]
 fn records_of_names() -> Result<(), Fail> {
-    let name = named(b"ab")?;
-    let mut record = name.record();
-    let Some(back) = NameKind::restore(record) else {
-        return Err(Fail::new("the record of a name fails"));
-    };
-    check(back.same(&name))?;
+    let mut record = named(b"ab")?.record();
+    check(NameKind::restore(record).is_some())?;
     record.text[14] = 1;
     check(NameKind::restore(record).is_none())?;
     let text = [0; 15];
-    check(NameKind::restore(NameRecord { text, len: 0 }).is_none())?;
-    check(NameKind::restore(NameRecord { text, len: 16 }).is_none())?;
-    check(NameKind::restore(NameRecord { text, len: 15 }).is_some())
+    for len in 0..17usize {
+        check(NameKind::restore(NameRecord { text, len }).is_some() == (1 <= len && len <= 15))?;
+    }
+    Ok(())
 }
 
 #[test]
