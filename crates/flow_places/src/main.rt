@@ -1,16 +1,16 @@
 // Which buckets a rule chooses for the keys of the standard input, and how they spread.
-use keys::Flow;
-use keys::FlowKind;
-use keys::Name;
-use keys::NameKind;
+use flows::Flow;
+use flows::FlowKind;
 use keys::RefusalDisplay;
 use lines::next_line;
+use names::Name;
+use names::NameKind;
 use places::Rule;
-use placing::KindName;
-use placing::Setting;
 use placing::answer_line;
-use placing::read_setting;
 use rules::BuiltinRule;
+use settings::KindName;
+use settings::Setting;
+use settings::read_setting;
 use spread::Spread;
 use spread::Summary;
 use std::alloc::Global;

@@ -13,8 +13,8 @@ use Rattle.std.specs.Written.{decimal}
 use Rattle.std.specs.shelf.Lists.{All}
 use Rattle.std.specs.declared.option.Option.the-variants.{Some}
 use Rattle.keys.specs.Bytes.{two}
-use Rattle.keys.specs.Flows.{flowBytes}
-use Rattle.keys.specs.declared.flow.Flow.{Flow}
+use Rattle.flows.specs.Flows.{flowBytes}
+use Rattle.flows.specs.declared.flow.Flow.{Flow}
 use Rattle.text.specs.FlowText.{addressText, flowText, address, endpoint, flowFrom}
 use Rattle.text.specs.Laws.{FlowKey, FlowsReadBack, FlowsExact}
 use Rattle.numerals.specs.Numbers.{digit}

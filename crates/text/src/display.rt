@@ -1,9 +1,9 @@
 // Flows written as text.
 ghost use Prim.Native.Nat.{_/_, _%_, _^_};
 ghost use Rattle.std.specs.declared.option.Option.the-variants.{Some};
-ghost use Rattle.keys.specs.Flows.{flowBytes};
+ghost use Rattle.flows.specs.Flows.{flowBytes};
 ghost use Rattle.text.specs.FlowText.{addressText, flowText};
-use keys::Flow;
+use flows::Flow;
 use std::fmt;
 
 // An address to be written: four bytes parted by dots.

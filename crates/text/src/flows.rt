@@ -3,10 +3,10 @@ ghost use mathlib.Core.Path.{_≡_};
 ghost use mathlib.Core.List.{[], _∷_};
 ghost use Rattle.std.specs.Options.{mapped};
 ghost use Rattle.keys.specs.Bytes.{four};
-ghost use Rattle.keys.specs.Flows.{flowBytes};
+ghost use Rattle.flows.specs.Flows.{flowBytes};
 ghost use Rattle.text.specs.FlowText.{address, endpoint, flowFrom};
 ghost use Rattle.numerals.specs.Parts.{part};
-use keys::Flow;
+use flows::Flow;
 use numerals::bounded;
 use numerals::cut;
 

@@ -1,9 +1,9 @@
 // The text of a name: its bytes.
-ghost use Rattle.keys.specs.Names.{nameFrom};
+ghost use Rattle.names.specs.Names.{nameFrom};
 use crate::spelled::Spelled;
-use keys::Name;
-use keys::NameKind;
 use keys::Refusal;
+use names::Name;
+use names::NameKind;
 use std::alloc::AllocError;
 use std::alloc::Global;
 

@@ -1,14 +1,14 @@
 // Keys and places on examples.
 use crate::by_bytes::ByBytes;
 use crate::by_bytes::ByBytesRule;
-use keys::Flow;
-use keys::FlowKind;
+use flows::Flow;
+use flows::FlowKind;
 use keys::Kind;
-use keys::Name;
-use keys::NameKind;
-use keys::NameRecord;
 use keys::Refusal;
 use keys::RefusalDisplay;
+use names::Name;
+use names::NameKind;
+use names::NameRecord;
 use places::Choices;
 use places::Rule;
 use places::fnv1a;

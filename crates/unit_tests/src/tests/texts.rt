@@ -1,5 +1,5 @@
 // Texts that are read and written, and texts that are refused.
-use keys::Name;
+use names::Name;
 use numerals::read_number;
 use std::test::*;
 use text::FlowSpelled;

@@ -6,7 +6,7 @@ use Rattle.std.specs.declared.option.Option.{Option}
 use Rattle.std.specs.declared.option.Option.the-variants.{Some}
 use Rattle.std.specs.declared.result.Result.the-variants.{Ok}
 use Rattle.seating.specs.Layouts.{Key}
-use Rattle.keys.specs.Flows.{flowBytes}
+use Rattle.flows.specs.Flows.{flowBytes}
 use Rattle.keys.specs.declared.refusal.Refusal.the-variants.{BadLine}
 use Rattle.text.specs.FlowText.{flowFrom}
 use Rattle.text.proofs.FlowTexts.{flow-key, flows-read-back, flows-exact}
