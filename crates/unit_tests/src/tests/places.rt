@@ -4,8 +4,6 @@ use crate::by_bytes::ByBytesRule;
 use flows::Flow;
 use flows::FlowKind;
 use keys::Kind;
-use keys::Refusal;
-use keys::RefusalDisplay;
 use names::Name;
 use names::NameKind;
 use names::NameRecord;
@@ -218,12 +216,4 @@ fn rule_of_a_customer() -> Result<(), Fail> {
     let short = named(&[7])?;
     check(lists(&rule.choices(&short), &[7, 0]))?;
     check(ByBytes::new(0).is_err() && ByBytes::new(513).is_err())
-}
-
-#[test]
-fn texts_of_refusals(rt: LibcRuntime) -> Result<(), Fail> {
-    let heap = rt.alloc();
-    check(Refusal::NameLength.to_string(heap)?.as_str() == "refused 7")?;
-    check(Refusal::Full(5).to_string(heap)?.as_str() == "refused 4 5")?;
-    check_eq(Refusal::OutOfTurn.number(), 9)
 }

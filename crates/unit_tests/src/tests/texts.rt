@@ -1,9 +1,7 @@
 // Texts that are read and written, and texts that are refused.
-use names::Name;
 use numerals::read_number;
 use std::test::*;
 use text::FlowSpelled;
-use text::NameSpelled;
 use text::Spelled;
 use text::read_flow;
 
@@ -109,14 +107,4 @@ fn a_flow() -> Result<(), Fail> {
     };
     check(flow.source == 0x0a00_0001 && flow.destination == 0x0a00_0002)?;
     check(flow.source_port == 80 && flow.destination_port == 81 && flow.protocol == 6)
-}
-
-#[test]
-fn a_name(rt: LibcRuntime) -> Result<(), Fail> {
-    let Ok(name) = Name::read(b"web-1") else {
-        return Err(Fail::new("not read"));
-    };
-    let mut out = Vec::new(rt.alloc());
-    name.write(rt.alloc(), &mut out)?;
-    check(out.as_slice() == b"web-1" && Name::read(b"").is_err())
 }
