@@ -1,2 +1,1 @@
-pub mod FlowText
 pub mod Laws

@@ -2,7 +2,7 @@
 ghost use Prim.Native.Nat.{_/_, _%_, _^_};
 ghost use Rattle.std.specs.declared.option.Option.the-variants.{Some};
 ghost use Rattle.flows.specs.Flows.{flowBytes};
-ghost use Rattle.text.specs.FlowText.{addressText, flowText};
+ghost use Rattle.flow_text.specs.FlowText.{addressText, flowText};
 use flows::Flow;
 use std::fmt;
 

@@ -1,11 +1,11 @@
 // The text of a flow.
 ghost use Rattle.std.specs.Options.{okOr};
 ghost use Rattle.keys.specs.declared.refusal.Refusal.the-variants.{BadLine};
-ghost use Rattle.text.specs.FlowText.{flowText, flowFrom};
+ghost use Rattle.flow_text.specs.FlowText.{flowText, flowFrom};
 use crate::display::ShownFlow;
 use crate::display::ShownFlowDisplay;
-use crate::flows::read_flow;
 use crate::spelled::Spelled;
+use flow_text::read_flow;
 use flows::Flow;
 use flows::FlowKind;
 use keys::Refusal;

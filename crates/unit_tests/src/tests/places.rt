@@ -15,58 +15,22 @@ use rules::BuiltinRule;
 use rules::RuleName;
 use std::test::*;
 
-// A text and its published FNV-1a word. The vector of the empty text is left out, since no key is
-// empty.
-struct Vector {
-    text: &'static [u8],
-    word: u32,
-}
-
-const PUBLISHED: [Vector; 11] = [
-    Vector {
-        text: b"a",
-        word: 0xe40c_292c,
-    },
-    Vector {
-        text: b"b",
-        word: 0xe70c_2de5,
-    },
-    Vector {
-        text: b"c",
-        word: 0xe60c_2c52,
-    },
-    Vector {
-        text: b"d",
-        word: 0xe10c_2473,
-    },
-    Vector {
-        text: b"e",
-        word: 0xe00c_22e0,
-    },
-    Vector {
-        text: b"f",
-        word: 0xe30c_2799,
-    },
-    Vector {
-        text: b"fo",
-        word: 0x6222_e842,
-    },
-    Vector {
-        text: b"foo",
-        word: 0xa9f3_7ed7,
-    },
-    Vector {
-        text: b"foob",
-        word: 0x3f50_76ef,
-    },
-    Vector {
-        text: b"fooba",
-        word: 0x39aa_a18a,
-    },
-    Vector {
-        text: b"foobar",
-        word: 0xbf9c_f968,
-    },
+// A seed, a text and its word. With seed 0 the words are the published FNV-1a vectors; that of the
+// empty text is left out, since no key is empty.
+const WORDS: [(u32, &[u8], u32); 13] = [
+    (0, b"a", 0xe40c_292c),
+    (0, b"b", 0xe70c_2de5),
+    (0, b"c", 0xe60c_2c52),
+    (0, b"d", 0xe10c_2473),
+    (0, b"e", 0xe00c_22e0),
+    (0, b"f", 0xe30c_2799),
+    (0, b"fo", 0x6222_e842),
+    (0, b"foo", 0xa9f3_7ed7),
+    (0, b"foob", 0x3f50_76ef),
+    (0, b"fooba", 0x39aa_a18a),
+    (0, b"foobar", 0xbf9c_f968),
+    (1, b"a", 0xe50c_2abf),
+    (0xffff_ffff, b"foobar", 0x6ff7_12cb),
 ];
 
 fn named(text: &[u8]) -> Result<Name, Fail> {
@@ -77,20 +41,11 @@ fn named(text: &[u8]) -> Result<Name, Fail> {
 }
 
 #[test]
-fn published_words() -> Result<(), Fail> {
-    for v in PUBLISHED.iter() {
-        let name = named(v.text)?;
-        check_eq(fnv1a(0, &name), v.word)?;
+fn words() -> Result<(), Fail> {
+    for (seed, text, word) in WORDS {
+        check_eq(fnv1a(seed, &named(text)?), word)?;
     }
     Ok(())
-}
-
-#[test]
-fn seeded_words() -> Result<(), Fail> {
-    let name = named(b"a")?;
-    check_eq(fnv1a(1, &name), 0xe50c_2abf)?;
-    let name = named(b"foobar")?;
-    check_eq(fnv1a(0xffff_ffff, &name), 0x6ff7_12cb)
 }
 
 // A rule, a number of buckets, and whether the rule is made with it.

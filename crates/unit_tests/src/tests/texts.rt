@@ -1,9 +1,9 @@
 // Texts that are read and written, and texts that are refused.
+use flow_text::read_flow;
 use numerals::read_number;
 use std::test::*;
 use text::FlowSpelled;
 use text::Spelled;
-use text::read_flow;
 
 // A text and the number that it writes; 1 stands for none.
 struct Numeral {
@@ -98,13 +98,4 @@ fn flows_written_as_read(rt: LibcRuntime) -> Result<(), Fail> {
         check(out.as_slice() == *text)?;
     }
     Ok(())
-}
-
-#[test]
-fn a_flow() -> Result<(), Fail> {
-    let Some(flow) = read_flow(b"10.0.0.1:80>10.0.0.2:81/6") else {
-        return Err(Fail::new("not read"));
-    };
-    check(flow.source == 0x0a00_0001 && flow.destination == 0x0a00_0002)?;
-    check(flow.source_port == 80 && flow.destination_port == 81 && flow.protocol == 6)
 }

@@ -8,7 +8,7 @@ use Rattle.std.specs.declared.result.Result.the-variants.{Ok}
 use Rattle.seating.specs.Layouts.{Key}
 use Rattle.flows.specs.Flows.{flowBytes}
 use Rattle.keys.specs.declared.refusal.Refusal.the-variants.{BadLine}
-use Rattle.text.specs.FlowText.{flowFrom}
+use Rattle.flow_text.specs.FlowText.{flowFrom}
 use Rattle.text.proofs.FlowTexts.{flow-key, flows-read-back, flows-exact}
 use Rattle.text.proofs.spelled.flow.FlowSpelled.the-impl.Needs as need
 

@@ -1,10 +1,10 @@
-// Flows read from text.
+// Flows read from text, and the definition of their text.
 ghost use mathlib.Core.Path.{_≡_};
 ghost use mathlib.Core.List.{[], _∷_};
 ghost use Rattle.std.specs.Options.{mapped};
 ghost use Rattle.keys.specs.Bytes.{four};
 ghost use Rattle.flows.specs.Flows.{flowBytes};
-ghost use Rattle.text.specs.FlowText.{address, endpoint, flowFrom};
+ghost use Rattle.flow_text.specs.FlowText.{address, endpoint, flowFrom};
 ghost use Rattle.numerals.specs.Parts.{part};
 use flows::Flow;
 use numerals::bounded;
