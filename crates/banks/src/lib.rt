@@ -1,4 +1,6 @@
 // Banks: what slots are kept in. A table sees a bank through the trait `Bank` alone.
+#![tactic(auto)]
+
 pub mod access;
 pub mod bank;
 pub mod memory;

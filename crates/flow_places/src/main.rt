@@ -1,4 +1,6 @@
 // Which buckets a rule chooses for the keys of the standard input, and how they spread.
+#![tactic(auto)]
+
 use flows::Flow;
 use lines::next_line;
 use names::Name;

@@ -1,4 +1,6 @@
 // Flows read from text, and the definition of their text.
+#![tactic(auto)]
+
 ghost use Rattle.std.specs.Prelude.{◌≡◌, [], ◌∷◌};
 ghost use Rattle.std.specs.Option.{option_map};
 ghost use Rattle.keys.specs.Bytes.{four};

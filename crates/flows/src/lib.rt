@@ -1,4 +1,6 @@
 // Flows, a kind of key.
+#![tactic(auto)]
+
 pub mod flow;
 
 pub use flow::Flow;

@@ -1,4 +1,6 @@
 // What a kind of key is, and the refusals of all crates.
+#![tactic(auto)]
+
 pub mod kind;
 pub mod refusal;
 

@@ -1,4 +1,6 @@
 // Lines of input of at most 128 bytes, read piece by piece with bounded memory.
+#![tactic(auto)]
+
 ghost use Rattle.std.specs.Prelude.{◌≡◌, ℕ, List, ◌++◌, IfSome, IfOk};
 ghost use Rattle.lines.specs.Lines.{line_text, until_feed};
 ghost use Rattle.lines.specs.Pieces.{piece_of};

@@ -1,4 +1,6 @@
 // Names, a kind of key.
+#![tactic(auto)]
+
 pub mod name;
 
 pub use name::{Name, NameRecord};

@@ -1,4 +1,6 @@
 // Decimal numbers in text: one by itself, and several with marks between them.
+#![tactic(auto)]
+
 pub mod laws;
 pub mod numbers;
 pub mod parts;

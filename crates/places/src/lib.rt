@@ -1,4 +1,6 @@
 // Places: the word of a key, and the rules by which a key chooses its buckets.
+#![tactic(auto)]
+
 pub mod choices;
 pub mod digits;
 pub mod rule;

@@ -1,4 +1,6 @@
 // What the program `flow_places` does with the line of a key: the key placed, noted and shown.
+#![tactic(auto)]
+
 mod answer;
 mod place;
 mod show;

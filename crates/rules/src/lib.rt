@@ -1,5 +1,7 @@
 // Our own place rules by name, so that a program can take one at run time, and the worked examples
 // of words and choices.
+#![tactic(auto)]
+
 mod builtin;
 mod examples;
 

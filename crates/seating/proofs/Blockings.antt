@@ -19,7 +19,7 @@ pub data Reach (L : Layout) (xs : List Content) (k : Key) : ℕ → Type 0 where
 
 pub allows_may : (L : Layout) (k : Key) (i : ℕ) → i < slots L → allows L k i ≡ true → Allowed L k i
 allows_may L k i l e = elim (or_cases (ltb i (bucket_slots L) && some_of (eqb (i / L.width)) (L.choices k)) _ e) [
-  | inl q ↦ (let p = and_parts (ltb i (bucket_slots L)) _ q in inl (ltb-true _ _ p.0, among_in _ _ p.1, l))
+  | inl q ↦ (let p = and_parts (ltb i (bucket_slots L)) _ q in inl (ltb-true _ _ p.0, among_in _ _ p.1))
   | inr q ↦ inr (leb-true _ _ q, l)
 ]
 

@@ -36,10 +36,10 @@ module _ (L : Layout) (xs : List Content) where
   from i l h s = (s.0, sym (at_front i l) ∙ s.1)
 
   path_into : {k : Key} {is : List ℕ} → CuckooPath L xs k is → CuckooPath L (front L xs) k is
-  path_into = path_same (λ k j c. ((λ e. at_front j c.2 ∙ e), into j c.2))
+  path_into = path_same (λ k j c. ((λ e. at_front j (in_slots L k j (inl c)) ∙ e), into j (in_slots L k j (inl c))))
 
   path_from : {k : Key} {is : List ℕ} → CuckooPath L (front L xs) k is → CuckooPath L xs k is
-  path_from = path_same (λ k j c. ((λ e. sym (at_front j c.2) ∙ e), from j c.2))
+  path_from = path_same (λ k j c. ((λ e. sym (at_front j (in_slots L k j (inl c))) ∙ e), from j (in_slots L k j (inl c))))
 
   shortest_front : {k : Key} {is : List ℕ} → Shortest L xs k is → Shortest L (front L xs) k is
   shortest_front s = record { path = path_into s.path; least = λ js p. s.least js (path_from p) }

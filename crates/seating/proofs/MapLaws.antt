@@ -29,18 +29,18 @@ module _ (L : Layout) (xs ys : List Content) (k : Key) (law' : Lawful L ys) wher
       (λ e. absent_value ys j (λ (i, (u, p)). (let s = from u (i, p) in value_none xs j e s.0 (u, s.1))))
 
   pub becomes_maps : (v : Value) → Becomes xs ys k v → Same (update bytes_eq (value_of xs) k (Some v)) (value_of ys)
-  becomes_maps v b j = elim (cases_Bool (bytes_eq j k)) [
-    | inl e ↦ stored_value L ys law' j v (rw ((bytes_eq-Decides j k).0 e) ((b k v).1 (inr refl))) ∙ sym (update_same bytes_eq (value_of xs) k (Some v) j e)
-    | inr e ↦ (let n : k ≢ j = λ q. both_ways _ e ((bytes_eq-Decides j k).1 (sym q)) in
+  becomes_maps v b j = elim (cases_Bool (bytes_eq k j)) [
+    | inl e ↦ stored_value L ys law' j v (rw (sym ((bytes_eq-Decides k j).0 e)) ((b k v).1 (inr refl))) ∙ sym (update_same bytes_eq (value_of xs) k (Some v) j e)
+    | inr e ↦ (let n : k ≢ j = λ q. both_ways _ e ((bytes_eq-Decides k j).1 q) in
         others j n (λ u s. (b j u).1 (inl (s, n)))
         (λ u s. elim ((b j u).0 s) [ inl p ↦ p.0 | inr q ↦ absurd (n (cc)) ])
         ∙ sym (update_other bytes_eq (value_of xs) k (Some v) j e))
   ]
 
   pub loses_maps : Loses xs ys k → Same (update bytes_eq (value_of xs) k None) (value_of ys)
-  loses_maps b j = elim (cases_Bool (bytes_eq j k)) [
-    | inl e ↦ absent_value ys j (λ (i, (u, p)). ((b j u).0 (i, p)).1 (sym ((bytes_eq-Decides j k).0 e))) ∙ sym (update_same bytes_eq (value_of xs) k None j e)
-    | inr e ↦ (let n : k ≢ j = λ q. both_ways _ e ((bytes_eq-Decides j k).1 (sym q)) in
+  loses_maps b j = elim (cases_Bool (bytes_eq k j)) [
+    | inl e ↦ absent_value ys j (λ (i, (u, p)). ((b j u).0 (i, p)).1 ((bytes_eq-Decides k j).0 e)) ∙ sym (update_same bytes_eq (value_of xs) k None j e)
+    | inr e ↦ (let n : k ≢ j = λ q. both_ways _ e ((bytes_eq-Decides k j).1 q) in
         others j n (λ u s. (b j u).1 (s, n)) (λ u s. ((b j u).0 s).0)
         ∙ sym (update_other bytes_eq (value_of xs) k None j e))
   ]

@@ -16,7 +16,7 @@ use Rattle.seating.proofs.Sitting.{not_both}
 
 pub candidate? : (L : Layout) (k : Key) (i : ℕ) → Either (Candidate L k i)
 candidate? L k i = elim (both? (lt? i (bucket_slots L)) (mem? (i / L.width) (L.choices k)))
-    [ inl (l, m) ↦ inl (l, m, omega arith) | inr n ↦ inr (λ c. n (c.0, c.1)) ]
+    [ inl (l, m) ↦ inl (l, m) | inr n ↦ inr (λ c. n (c.0, c.1)) ]
 
 pub vacant? : (c : Content) → Either (c ≡ vacant)
 vacant? vacant = inl refl

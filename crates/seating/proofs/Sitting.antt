@@ -49,7 +49,7 @@ sits_vacated xs i in' h j (u, e) = elim (cases_eq j i) [
 ]
 
 pub in_slots : (L : Layout) (k : Key) (i : ℕ) → Allowed L k i → i < slots L
-in_slots L k i (inl c) = c.2
+in_slots L k i (inl c) = omega arith
 in_slots L k i (inr s) = s.1
 
 pub sits_low : (L : Layout) (xs : List Content) → Lawful L xs → (k : Key) (i : ℕ) → Sits xs k i → i < length xs

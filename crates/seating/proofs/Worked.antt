@@ -64,19 +64,19 @@ abbrev slots4 : List Content
 slots4 = holding (codes "c") 3 ∷ holding (codes "b") 2 ∷ holding (codes "f") 6 ∷ vacant ∷ holding (codes "e") 5 ∷ []
 
 ran1 : Ran worked (fresh worked) (past 4 worked_calls) slots1
-ran1 = placing [] (fresh worked) (codes "b") 2 1 begun refl (omega arith, among_in _ 1 refl, omega arith) refl
+ran1 = placing [] (fresh worked) (codes "b") 2 1 begun refl (omega arith, among_in _ 1 refl) refl
 
 ran2 : Ran worked (fresh worked) (past 3 worked_calls) slots2
-ran2 = placing (past 4 worked_calls) slots1 (codes "f") 6 2 ran1 refl (omega arith, among_in _ 2 refl, omega arith) refl
+ran2 = placing (past 4 worked_calls) slots1 (codes "f") 6 2 ran1 refl (omega arith, among_in _ 2 refl) refl
 
 ran3 : Ran worked (fresh worked) (past 2 worked_calls) slots3
-ran3 = placing (past 3 worked_calls) slots2 (codes "c") 3 0 ran2 refl (omega arith, among_in _ 0 refl, omega arith) refl
+ran3 = placing (past 3 worked_calls) slots2 (codes "c") 3 0 ran2 refl (omega arith, among_in _ 0 refl) refl
 
 ran4 : Ran worked (fresh worked) (past 1 worked_calls) slots4
 ran4 = stowing (past 2 worked_calls) slots3 (codes "e") 5 ran3 refl (pathless worked slots3 (λ i. ltb i 3) (codes "e") refl) refl
 
 ran : Ran worked (fresh worked) worked_calls worked_slots
-ran = placing (past 1 worked_calls) slots4 (codes "a") 1 3 ran4 refl (omega arith, among_in _ 3 refl, omega arith) refl
+ran = placing (past 1 worked_calls) slots4 (codes "a") 1 3 ran4 refl (omega arith, among_in _ 3 refl) refl
 
 stuck : Stuck worked worked_slots (codes "d")
 stuck = record {

@@ -1,4 +1,6 @@
 // The first line of `flow_places`: a rule with its seed, and a kind of key.
+#![tactic(auto)]
+
 mod header;
 mod setting;
 

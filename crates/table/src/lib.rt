@@ -1,4 +1,6 @@
 // A cuckoo table with a stash, over any bank and any place rule.
+#![tactic(auto)]
+
 ghost use Rattle.std.specs.Prelude.{◌≤◌};
 
 use banks::Bank;

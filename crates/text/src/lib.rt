@@ -1,4 +1,6 @@
 // Text of keys.
+#![tactic(auto)]
+
 pub mod display;
 pub mod laws;
 pub mod spelled;
