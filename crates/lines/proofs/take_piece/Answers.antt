@@ -5,8 +5,8 @@ use Rattle.lines.specs.Pieces.{piece_of}
 use Rattle.lines.proofs.Feeds.{feed_here, feed_later, feed_nowhere, piece_done, piece_more}
 use Rattle.lines.proofs.take_piece.Goals as goal
 
-pub returns-then-is-empty : goal.returns-then-is-empty
-returns-then-is-empty c =
+pub returns-then-is_empty : goal.returns-then-is_empty
+returns-then-is_empty c =
     let e : c.args.piece.now ≡ [] = nil_from_length _ (search rules) in
     record {
       value = ap piece_of (sym e);

@@ -9,11 +9,11 @@ use Rattle.numerals.proofs.numbers.read_number.Goals as goal
 pub returns-then-b-lt48 : goal.returns-then-b-lt48
 returns-then-b-lt48 c = let e = digits_more c.args.s.now c.loop-b.b-index (search rules) in grind (arith, nat_tests)
 
-pub overflow-mul-n : goal.overflow-mul-n
-overflow-mul-n c = omega (arith, small c.loop-b.n c.loop-b.b-index c.loop-b.invariant.0 (omega arith))
+pub overflow_mul-n : goal.overflow_mul-n
+overflow_mul-n c = omega (arith, small c.loop-b.n c.loop-b.b-index c.loop-b.invariant.0 (omega arith))
 
-pub overflow-add-n : goal.overflow-add-n
-overflow-add-n c = omega (arith, small c.loop-b.n c.loop-b.b-index c.loop-b.invariant.0 (omega arith))
+pub overflow_add-n : goal.overflow_add-n
+overflow_add-n c = omega (arith, small c.loop-b.n c.loop-b.b-index c.loop-b.invariant.0 (omega arith))
 
 pub loop-b-preserved : goal.loop-b-preserved
 loop-b-preserved c =

@@ -9,7 +9,7 @@ use Rattle.placing.proofs.show.push_choices.Goals as goal
 pub loop-j-preserved : goal.loop-j-preserved
 loop-j-preserved c =
     choices_more (vec_items c.args.out.now) (vec_items c.loop-j.out) _ (listed c.args.choices.now) c.loop-j.j c.at.result
-    (omega (arith, c.len-j-end.ensures)) c.at.ensures c.loop-j.invariant c.in-ok-push-number.ensures
+    (omega (arith, c.len-j-end.ensures)) c.at.ensures c.loop-j.invariant c.in_ok-push_number.ensures
 
 pub returns : goal.returns
 returns c =

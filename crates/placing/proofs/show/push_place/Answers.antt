@@ -7,9 +7,9 @@ use Rattle.placing.proofs.show.push_place.Goals as goal
 
 pub returns : goal.returns
 returns g c =
-    four_pieces (vec_items c.args.out.now) (vec_items c.write.new.out) (vec_items c.extend-from-slice.new.self)
-    (vec_items c.extend-from-slice-2.new.self) (vec_items c.push-choices.new.out)
+    four_pieces (vec_items c.args.out.now) (vec_items c.write.new.out) (vec_items c.extend_from_slice.new.self)
+    (vec_items c.extend_from_slice-2.new.self) (vec_items c.push_choices.new.out)
     (g.K.Spelled.text (g.K.Kind.bytes c.args.key.now)) (codes " 0x") (hex_text c.args.word) (flat_map spaced (listed c.args.choices.now))
-    c.in-ok-write.ensures c.in-ok-extend-from-slice.ensures.items
-    (c.in-ok-extend-from-slice-2.ensures.items ∙ ap (λ (s : List ℕ). vec_items c.extend-from-slice.new.self ++ s) c.hex.ensures)
-    c.in-ok-push-choices.ensures
+    c.in_ok-write.ensures c.in_ok-extend_from_slice.ensures.items
+    (c.in_ok-extend_from_slice-2.ensures.items ∙ ap (λ (s : List ℕ). vec_items c.extend_from_slice.new.self ++ s) c.hex.ensures)
+    c.in_ok-push_choices.ensures

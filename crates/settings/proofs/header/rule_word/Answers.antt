@@ -16,8 +16,8 @@ returns-in-100-2 c = rw take_rest (grind (arith, nat_tests))
 pub returns-in-120 : goal.returns-in-120
 returns-in-120 c = rw take_rest (grind (arith, nat_tests))
 
-pub returns-in-default : goal.returns-in-default
-returns-in-default c =
+pub returns-in_default : goal.returns-in_default
+returns-in_default c =
     let a : begins (codes "two ") c.args.s.now ≡ false = grind (arith, nat_tests) in
     let b : begins (codes "dig2 ") c.args.s.now ≡ false = grind (arith, nat_tests) in
     let d : begins (codes "dig3 ") c.args.s.now ≡ false = grind (arith, nat_tests) in

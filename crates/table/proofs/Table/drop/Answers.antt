@@ -6,8 +6,8 @@ use Rattle.table.proofs.Table.drop.Goals as goal
 pub returns-then-work-n : goal.returns-then-work-n
 returns-then-work-n g c = ?
 
-pub returns-in-default : goal.returns-in-default
-returns-in-default g c = ?
+pub returns-in_default : goal.returns-in_default
+returns-in_default g c = ?
 
 pub returns : goal.returns
 returns g c = ?

@@ -13,7 +13,7 @@ returns-in-Some g c =
     let L = layout g.R.Rule.count g.R.Rule.places t in
     let k = g.Key.Kind.bytes c.args.key.now in
     let sized = sized_of g.R.Rule.count g.R.Rule.degree g.R.Rule.places t.rule t.width t.stash g.met.R.Rule.placed t.some in
-    let e = rw c.in-Some.is at (get_answer L (g.B.Bank.slots t.bank) k c.look-up-look.result sized c.look-up-look.ensures) in
+    let e = rw c.in-Some.is at (get_answer L (g.B.Bank.slots t.bank) k c.look_up-look.result sized c.look_up-look.ensures) in
     record { answer = e; map = λ s. got_map L _ k _ _ e s }
 
 pub returns-in-None : goal.returns-in-None
@@ -22,5 +22,5 @@ returns-in-None g c =
     let L = layout g.R.Rule.count g.R.Rule.places t in
     let k = g.Key.Kind.bytes c.args.key.now in
     let sized = sized_of g.R.Rule.count g.R.Rule.degree g.R.Rule.places t.rule t.width t.stash g.met.R.Rule.placed t.some in
-    let e = rw c.in-None.is at (get_answer L (g.B.Bank.slots t.bank) k c.look-up-look.result sized c.look-up-look.ensures) in
+    let e = rw c.in-None.is at (get_answer L (g.B.Bank.slots t.bank) k c.look_up-look.result sized c.look_up-look.ensures) in
     record { answer = e; map = λ s. got_map L _ k _ _ e s }

@@ -11,10 +11,10 @@ pub returns : goal.returns
 returns g c =
     let L = layout_of g.R.Rule.count g.R.Rule.places c.args.rule c.args.width c.args.stash in
     let xs = g.B.Bank.slots c.args.bank in
-    let ys = g.B.Bank.slots c.empty-front.new.bank in
+    let ys = g.B.Bank.slots c.empty_front.new.bank in
     let n : c.buckets.result * c.args.width + c.args.stash ≡ slots L = ap (λ (b : ℕ). b * c.args.width + c.args.stash) c.buckets.ensures in
     let long : slots L ≤ length xs = omega (arith, n, c.if-len-n.false, c.len.ensures) in
-    let e : ys ≡ replicate (slots L) vacant ++ drop (slots L) xs = rw n at (c.empty-front.ensures.after (omega (arith, c.if-len-n.false, c.len.ensures))) in
+    let e : ys ≡ replicate (slots L) vacant ++ drop (slots L) xs = rw n at (c.empty_front.ensures.after (omega (arith, c.if-len-n.false, c.len.ensures))) in
     let d : MakeDoes L xs made ys = (record { some = omega (arith, c.if-width-lt1.false); narrow = omega (arith, c.if-width-gt4.false); few = omega (arith, c.if-stash-gt8.false) }, long, e) in
     let m = made_new L xs ys d in
-    record { rule = refl; width = refl; stash = refl; emptied = d; sound = m.0; ran = m.1; stays = c.empty-front.ensures.stays }
+    record { rule = refl; width = refl; stash = refl; emptied = d; sound = m.0; ran = m.1; stays = c.empty_front.ensures.stays }

@@ -13,24 +13,24 @@ use Rattle.table.specs.Tables.{layout}
 use Rattle.table.specs.Views.{view}
 use Rattle.table.proofs.Table.seat.Goals as goal
 
-pub carry-out-moved-requires : goal.carry-out-moved-requires
-carry-out-moved-requires g c =
-    let f = c.if-seek-key.ensures.way in
+pub carry_out-moved-requires : goal.carry_out-moved-requires
+carry_out-moved-requires g c =
+    let f = c.if-seek_key.ensures.way in
     let s = f.sound in
     record {
       within = (omega (arith, f.low), omega (arith, tail_le _ s, s.even_at), omega (arith, tail_le _ s, s.even_from));
       road = (f.walk, found_road _ _ _ _ f);
     }
 
-pub returns-then-seek-key : goal.returns-then-seek-key
-returns-then-seek-key g c =
+pub returns-then-seek_key : goal.returns-then-seek_key
+returns-then-seek_key g c =
     let t = c.args.self.now in
     let h : Scene = record { layout = layout g.R.Rule.count g.R.Rule.places t; slots = g.B.Bank.slots t.bank } in
-    let f = c.if-seek-key.ensures.way in
-    let e = c.carry-out-moved.ensures.after f.walk (found_road _ _ _ _ f) in
+    let f = c.if-seek_key.ensures.way in
+    let e = c.carry_out-moved.ensures.after f.walk (found_road _ _ _ _ f) in
     record {
-      keeps = record { rule = refl; width = refl; stash = refl; stays = c.carry-out-moved.ensures.stays };
-      seats = (inl (pathed_by h (g.Key.Kind.bytes c.args.entry.key) c.args.entry.value _ _ _ _ f e.0 e.1), rw c.requires.edge at c.count-held-stashed.ensures, refl);
+      keeps = record { rule = refl; width = refl; stash = refl; stays = c.carry_out-moved.ensures.stays };
+      seats = (inl (pathed_by h (g.Key.Kind.bytes c.args.entry.key) c.args.entry.value _ _ _ _ f e.0 e.1), rw c.requires.edge at c.count_held-stashed.ensures, refl);
     }
 
 pub returns-in-Some : goal.returns-in-Some

@@ -11,4 +11,4 @@ returns-in-Some g c =
 
 pub loop-j-preserved : goal.loop-j-preserved
 loop-j-preserved g c =
-    range_more (g.B.Bank.slots c.args.bank.now) (g.Key.Kind.bytes c.args.key.now) c.args.first c.loop-j.j c.in-default.ensures c.loop-j.invariant
+    range_more (g.B.Bank.slots c.args.bank.now) (g.Key.Kind.bytes c.args.key.now) c.args.first c.loop-j.j c.in_default.ensures c.loop-j.invariant

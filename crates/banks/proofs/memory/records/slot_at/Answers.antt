@@ -8,4 +8,4 @@ returns-then-i-slots g c =
 
 pub returns : goal.returns
 returns g c =
-    read_map (record_means g.K.Kind.means) c.args.slots.now c.args.i _ _ c.if-i-slots.false c.index-slots-i.is c.told-by.ensures
+    read_map (record_means g.K.Kind.means) c.args.slots.now c.args.i _ _ c.if-i-slots.false c.index-slots-i.is c.told_by.ensures

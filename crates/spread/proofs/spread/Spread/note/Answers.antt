@@ -6,4 +6,4 @@ use Rattle.spread.proofs.spread.Spread.note.Goals as goal
 pub returns : goal.returns
 returns c =
     let s = c.args.self.now in
-    noted_front s.buckets (listed c.args.choices.now) s.counts c.note-all.new.counts (omega arith) c.note-all.ensures
+    noted_front s.buckets (listed c.args.choices.now) s.counts c.note_all.new.counts (omega arith) c.note_all.ensures

@@ -4,7 +4,7 @@ use Rattle.search.proofs.Spreading.{spread_as, spread_then, struck_then, spread_
 use Rattle.seating.specs.Layouts.Content.{vacant}
 use Rattle.seating.specs.Slots.{at}
 use Rattle.table.proofs.frontier.Frontier.bucket.Goals as goal
-use Rattle.table.proofs.frontier.Frontier.bucket.Goals.{else-self-tail-via-then-self-tail+else-vacant-at, else-self-tail-via-else-self-tail}
+use Rattle.table.proofs.frontier.Frontier.bucket.Goals.{else-self-tail-via-then-self-tail+else-vacant_at, else-self-tail-via-else-self-tail}
 
 pub loop-i-preserved : goal.loop-i-preserved
 loop-i-preserved g c =
@@ -14,7 +14,7 @@ loop-i-preserved g c =
   where
     full : c.loop-i.self.tail < c.push.new.self.tail → at (g.B.Bank.slots c.args.bank.now) c.loop-i.i ≡ vacant → ⊥
     full h e = elim c.else-self-tail.branch [
-      | else-self-tail-via-then-self-tail+else-vacant-at w ↦ both_ways _ w.if-vacant-at.false (w.vacant-at.ensures.1 e)
+      | else-self-tail-via-then-self-tail+else-vacant_at w ↦ both_ways _ w.if-vacant_at.false (w.vacant_at.ensures.1 e)
       | else-self-tail-via-else-self-tail w ↦ omega arith
     ]
 

@@ -20,9 +20,9 @@ loop-p-preserved g c =
     let e : get_or c.args.self.now.from.now c.loop-p.p 0 ≡ suc b = omega (arith, c.loop-p-test.true) in
     let k = c.requires.road.1.sound.back p (omega (arith, c.loop-p.invariant.0)) in (
       omega (arith, c.loop-p.invariant.0, k, e),
-      λ w r. rw c.set-content.ensures.after (halfway_more _ _ _ w r _ _ (c.loop-p.invariant.1 w r) b e _ c.content-at-held.ensures),
+      λ w r. rw c.set_content.ensures.after (halfway_more _ _ _ w r _ _ (c.loop-p.invariant.1 w r) b e _ c.content_at-held.ensures),
       λ w is r t. let x = c.loop-p.invariant.2 w (slot q p ∷ is) r (trail_on q p b is k e t) in omega (arith, x),
-      c.set-content.ensures.stays ∙ c.loop-p.invariant.3,
+      c.set_content.ensures.stays ∙ c.loop-p.invariant.3,
     )
 
 pub returns : goal.returns
@@ -33,6 +33,6 @@ returns g c =
       after = λ w r.
           (let k = r.sound.back p (omega (arith, c.loop-p.invariant.0)) in
           let x = c.loop-p.invariant.2 w (slot q p ∷ []) r (trail_root q p k c.loop-p-test.false) in
-          (c.set-content-2.ensures.after ∙ halfway_end _ _ _ w r _ _ (c.loop-p.invariant.1 w r) _ c.loop-p-test.false, omega (arith, x)));
-      stays = c.set-content-2.ensures.stays ∙ c.loop-p.invariant.3;
+          (c.set_content-2.ensures.after ∙ halfway_end _ _ _ w r _ _ (c.loop-p.invariant.1 w r) _ c.loop-p-test.false, omega (arith, x)));
+      stays = c.set_content-2.ensures.stays ∙ c.loop-p.invariant.3;
     }

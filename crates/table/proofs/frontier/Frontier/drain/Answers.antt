@@ -8,8 +8,8 @@ use Rattle.table.proofs.frontier.Frontier.drain.Goals as goal
 pub loop-link-init : goal.loop-link-init
 loop-link-init g c = (c.requires.begun, c.requires.entry.0, c.requires.entry.1, refl)
 
-pub overflow-add-link : goal.overflow-add-link
-overflow-add-link g c = let s = c.loop-link.invariant.0.sound in omega (arith, c.loop-link-test.true, tail_le _ s, s.fits)
+pub overflow_add-link : goal.overflow_add-link
+overflow_add-link g c = let s = c.loop-link.invariant.0.sound in omega (arith, c.loop-link-test.true, tail_le _ s, s.fits)
 
 pub loop-link-smaller-then-not-expand : goal.loop-link-smaller-then-not-expand
 loop-link-smaller-then-not-expand g c =

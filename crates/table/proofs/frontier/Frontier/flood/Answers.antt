@@ -6,13 +6,13 @@ use Rattle.search.proofs.Queuing.{tail_le}
 use Rattle.table.specs.Views.{view, scene_of}
 use Rattle.table.proofs.frontier.Frontier.flood.Goals as goal
 
-pub overflow-add-link : goal.overflow-add-link
-overflow-add-link g c = let s = c.requires.closed.sound in omega (arith, tail_le _ s, s.fits)
+pub overflow_add-link : goal.overflow_add-link
+overflow_add-link g c = let s = c.requires.closed.sound in omega (arith, tail_le _ s, s.fits)
 
 pub drain-requires : goal.drain-requires
 drain-requires g c =
     let h = scene_of g.B.Bank.slots g.R.Rule.count g.R.Rule.places c.args.ground.now in
-    let w = c.offer-held.ensures in
+    let w = c.offer_held.ensures in
     record {
       begun = flood_begun h _ _ _ _ c.requires.closed w c.requires.range.0 c.requires.range.1 c.requires.filled;
       wide = c.requires.wide;
@@ -23,9 +23,9 @@ drain-requires g c =
 pub returns : goal.returns
 returns g c =
     let h = scene_of g.B.Bank.slots g.R.Rule.count g.R.Rule.places c.args.ground.now in
-    let w = c.offer-held.ensures in
+    let w = c.offer_held.ensures in
     let q = view c.args.self.now in
     record {
-      flooded = flooding_as h (Before (view c.offer-held.new.self) (q.tail + 1)) (Seen q) _ _ (seen_before h _ _ _ _ c.requires.closed w) c.drain.ensures.flooded;
+      flooded = flooding_as h (Before (view c.offer_held.new.self) (q.tail + 1)) (Seen q) _ _ (seen_before h _ _ _ _ c.requires.closed w) c.drain.ensures.flooded;
       rows = c.drain.ensures.rows ∙ w.grew.len;
     }

@@ -10,8 +10,8 @@ levels-init g c =
     let h = scene_of g.B.Bank.slots g.R.Rule.count g.R.Rule.places c.args.ground.now in
     (roots_reached h _ c.requires.roots, omega arith, refl)
 
-pub overflow-add-b : goal.overflow-add-b
-overflow-add-b g c = omega (arith, tail_le _ c.levels.invariant.0.sound, c.levels.invariant.0.sound.fits)
+pub overflow_add-b : goal.overflow_add-b
+overflow_add-b g c = omega (arith, tail_le _ c.levels.invariant.0.sound, c.levels.invariant.0.sound.fits)
 
 pub returns-then-level : goal.returns-then-level
 returns-then-level g c =
@@ -20,8 +20,8 @@ returns-then-level g c =
     let i = c.levels.invariant in
     record { rows = w.grew.len ∙ i.2; way = level_found h (Seen (view c.args.self.now)) _ _ _ i.0 i.1 _ w }
 
-pub overflow-add-self : goal.overflow-add-self
-overflow-add-self g c = let s = c.if-level.ensures.grew.sound in omega (arith, tail_le _ s, s.fits)
+pub overflow_add-self : goal.overflow_add-self
+overflow_add-self g c = let s = c.if-level.ensures.grew.sound in omega (arith, tail_le _ s, s.fits)
 
 pub returns-then-self-b : goal.returns-then-self-b
 returns-then-self-b g c =

@@ -11,8 +11,8 @@ offset-bounds-self-self c = omega (arith, tail_low c, c.requires.tidy.fits)
 pub bounds-self-self : goal.bounds-self-self
 bounds-self-self c = omega (arith, tail_low c, c.requires.tidy.even_at)
 
-pub overflow-cast-self-then-self-i-eq0 : goal.overflow-cast-self-then-self-i-eq0
-overflow-cast-self-then-self-i-eq0 c = omega (arith, tail_low c, c.requires.tidy.fits)
+pub overflow_cast-self-then-self-i-eq0 : goal.overflow_cast-self-then-self-i-eq0
+overflow_cast-self-then-self-i-eq0 c = omega (arith, tail_low c, c.requires.tidy.fits)
 
 pub offset-bounds-self-self-then-self-i-eq0 : goal.offset-bounds-self-self-then-self-i-eq0
 offset-bounds-self-self-then-self-i-eq0 c = omega (arith, tail_low c, c.requires.tidy.fits)
@@ -20,8 +20,8 @@ offset-bounds-self-self-then-self-i-eq0 c = omega (arith, tail_low c, c.requires
 pub bounds-self-self-then-self-i-eq0 : goal.bounds-self-self-then-self-i-eq0
 bounds-self-self-then-self-i-eq0 c = omega (arith, tail_low c, c.requires.tidy.even_from)
 
-pub overflow-add-self : goal.overflow-add-self
-overflow-add-self c = omega (arith, tail_low c, c.requires.tidy.fits)
+pub overflow_add-self : goal.overflow_add-self
+overflow_add-self c = omega (arith, tail_low c, c.requires.tidy.fits)
 
 pub returns-then-self-i-eq0 : goal.returns-then-self-i-eq0
 returns-then-self-i-eq0 c =
