@@ -6,8 +6,8 @@ use Rattle.names.specs.Names.{name_long}
 use Rattle.names.specs.NamesLemmas.{blank_behind}
 use Rattle.names.proofs.name.Name.new.Goals as goal
 
-pub invariant-of-result : goal.invariant-of-result
-invariant-of-result c =
+pub invariant_of-result : goal.invariant_of-result
+invariant_of-result c =
     let n : ℕ = length c.args.bytes.now in
     let z : blank (drop n c.padded-text.result) ≡ true = ap (λ (t : List ℕ). blank (drop n t)) c.padded-text.ensures ∙ blank_behind c.args.bytes.now n (15 - n) refl in
     search rules
