@@ -34,25 +34,25 @@ impl<K: Kind> Rule<K> for Builtin {
 
     fn buckets(&self) -> usize {
         match self {
-            Builtin::Two(rule) => TwoRule::<K>::buckets(rule),
-            Builtin::Digits(rule) => DigitsRule::<K>::buckets(rule),
-            Builtin::Xor(rule) => XorRule::<K>::buckets(rule),
+            Builtin::Two(rule) => <Two as Rule<K>>::buckets(rule),
+            Builtin::Digits(rule) => <Digits as Rule<K>>::buckets(rule),
+            Builtin::Xor(rule) => <Xor as Rule<K>>::buckets(rule),
         }
     }
 
     fn choice_count(&self) -> usize {
         match self {
-            Builtin::Two(rule) => TwoRule::<K>::choice_count(rule),
-            Builtin::Digits(rule) => DigitsRule::<K>::choice_count(rule),
-            Builtin::Xor(rule) => XorRule::<K>::choice_count(rule),
+            Builtin::Two(rule) => <Two as Rule<K>>::choice_count(rule),
+            Builtin::Digits(rule) => <Digits as Rule<K>>::choice_count(rule),
+            Builtin::Xor(rule) => <Xor as Rule<K>>::choice_count(rule),
         }
     }
 
     fn choices(&self, key: &K) -> Choices {
         match self {
-            Builtin::Two(rule) => TwoRule::<K>::choices(rule, key),
-            Builtin::Digits(rule) => DigitsRule::<K>::choices(rule, key),
-            Builtin::Xor(rule) => XorRule::<K>::choices(rule, key),
+            Builtin::Two(rule) => <Two as Rule<K>>::choices(rule, key),
+            Builtin::Digits(rule) => <Digits as Rule<K>>::choices(rule, key),
+            Builtin::Xor(rule) => <Xor as Rule<K>>::choices(rule, key),
         }
     }
 }

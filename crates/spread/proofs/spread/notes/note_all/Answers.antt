@@ -16,7 +16,7 @@ loop-j-preserved c =
     let P : List ℕ → Type 0 = λ ys. Noted (take (j + 1) cs) old ys in
     elim c.if-b-counts.branch [
       | then-b-counts+then-not-chosen_before w ↦
-          subst P (sym (w.counts-is ∙ ap (λ (v : ℕ). set xs b v) w.saturating-add.ensures))
+          subst P (sym (w.counts-is ∙ ap (λ (v : ℕ). set xs b v) w.saturating_add.ensures))
           (noted_more cs j b old xs c.at-b.ensures l (sym w.if-not-chosen_before.ensures) w.if-b-counts.true c.loop-j.invariant)
       | else-b-counts w ↦
           elim w.else-b-counts.branch [

@@ -6,7 +6,7 @@ use Rattle.spread.proofs.spread.reports.total.Goals as goal
 pub loop-c-preserved : goal.loop-c-preserved
 loop-c-preserved c =
     let f = fold_more ◌+◌ 0 c.args.counts.now c.loop-c.c-index 0 (omega arith) in
-    (omega (arith, c.type-inv.counts c.loop-c.c-index), cc f)
+    (omega (arith, c.type_inv.counts c.loop-c.c-index), cc f)
 
 pub returns : goal.returns
 returns c =
