@@ -39,9 +39,9 @@ fn rule_word<'a>(s: &'a [u8]) -> Option<(RuleName, &'a [u8])>
 fn kind_word(s: &[u8]) -> Option<KindName>
     ensures { result ≡ kind_word_lem s.now }
 {
-    if s == b"flow" {
+    if s == b"flow".as_slice() {
         Some(KindName::Flow)
-    } else if s == b"name" {
+    } else if s == b"name".as_slice() {
         Some(KindName::Name)
     } else {
         None
