@@ -1,10 +1,9 @@
 -- Slot records and what they mean.
-use Rattle.std.proofs.Common.{◌≡◌, ℕ, ◌<◌, ◌≤◌, cond, ltb, List, map, length, get_or, set, Ok, Err, Result, sym, refl, ap, ◌∙◌}
+use Rattle.std.proofs.Common.{◌≡◌, ℕ, ◌<◌, ◌≤◌, cond, ltb, List, map, length, get_or, set, Ok, Err, sym, ap, ◌∙◌}
 use Rattle.std.proofs.lemmas.List.{length-map, map-set, get_or-map}
 use Rattle.seating.specs.Layouts.{Content, vacant}
-use Rattle.keys.specs.declared.refusal.Refusal.{Refusal}
 use Rattle.keys.specs.declared.refusal.Refusal.TheVariants.{NoSlot}
-use Rattle.banks.specs.Slots.{answer_at, read_of, done_at}
+use Rattle.banks.specs.Slots.{read_of, done_at}
 use Rattle.banks.proofs.Answered.{answered, refused}
 
 -- a place of the slice is a slot of what the slice means

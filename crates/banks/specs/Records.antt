@@ -1,5 +1,5 @@
 -- What slot records mean.
-use Rattle.std.specs.Prelude.{ℕ, List, Some, None, Option}
+use Rattle.std.specs.Prelude.{Some, None, Option}
 use Rattle.seating.specs.Layouts.{Key, Value, Content, vacant, holding}
 use Rattle.banks.specs.declared.memory.SlotRecord.{SlotRecord}
 use Rattle.banks.specs.declared.memory.SlotRecord.TheVariants.{Empty, Held}

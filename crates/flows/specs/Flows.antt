@@ -1,5 +1,5 @@
 -- What a flow is as a key.
-use Rattle.std.specs.Prelude.{ℕ, ◌%◌, List, [], ◌∷◌}
+use Rattle.std.specs.Prelude.{◌%◌, [], ◌∷◌}
 use Rattle.seating.specs.Layouts.{Key}
 use Rattle.keys.specs.Bytes.{two, four}
 use Rattle.flows.specs.declared.flow.Flow.{Flow}

@@ -4,8 +4,7 @@ use Rattle.std.proofs.lemmas.List.{append-nil, append_assoc, at_drop_more, at_dr
 use Rattle.std.proofs.lemmas.Bool.Decides.{nat_tests, eqb_tells}
 use Rattle.lines.specs.Lines.{until_feed}
 use Rattle.lines.specs.Pieces.{piece_of}
-use Rattle.lines.specs.declared.Piece.{Piece}
-use Rattle.lines.specs.declared.Piece.TheVariants.{End, Done, More}
+use Rattle.lines.specs.declared.Piece.TheVariants.{Done, More}
 
 -- no line feed stands before place i
 abbrev pub Clear : List ℕ → ℕ → Type 0

@@ -1,8 +1,8 @@
 -- Lines a byte at a time.
-use Rattle.std.proofs.Common.{◌≡◌, ℕ, ◌+◌, ◌<◌, ◌≤◌, Bool, true, false, cond, leb, ◌⊎◌, List, [], ◌∷◌, ◌++◌, length, get_or, take, drop, set, Some, None, Option, sym, refl, ap, ◌∙◌, inl, inr, ⊎_elim, arith}
-use Rattle.std.proofs.lemmas.List.{length_push, take_more_set, length-take-le, append-nil}
+use Rattle.std.proofs.Common.{◌≡◌, ℕ, ◌+◌, ◌<◌, ◌≤◌, Bool, true, false, cond, ◌⊎◌, List, [], ◌∷◌, ◌++◌, length, take, set, Some, None, sym, ap, ◌∙◌, inl, inr, arith}
+use Rattle.std.proofs.lemmas.List.{length_push, take_more_set, length-take-le}
 use Rattle.std.proofs.lemmas.Bool.Decides.{leb_tells}
-use Rattle.lines.specs.Lines.{line_text, until_feed}
+use Rattle.lines.specs.Lines.{line_text}
 
 short : (bs : List ℕ) → length bs ≤ 128 → line_text bs ≡ Some bs
 short bs h = elim (leb_tells (length bs) 128) [ inl p ↦ ap (λ (t : Bool). cond t (Some bs) None) p.0 | inr p ↦ absurd (omega arith) ]

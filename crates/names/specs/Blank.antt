@@ -1,5 +1,5 @@
 -- Zeros behind a text.
-use Rattle.std.specs.Prelude.{ℕ, Bool, true, false, ◌&&◌, List, [], ◌∷◌, ◌==◌}
+use Rattle.std.specs.Prelude.{ℕ, Bool, true, ◌&&◌, List, [], ◌∷◌, ◌==◌}
 
 -- all of a list is zero
 abbrev pub blank : List ℕ → Bool

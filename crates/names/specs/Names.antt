@@ -1,5 +1,5 @@
 -- What a name is as a key, what a plain record of a name means, and which bytes make a name.
-use Rattle.std.specs.Prelude.{ℕ, Bool, true, false, cond, ◌&&◌, List, length, take, drop, Some, None, Ok, Err, Option, Result, nat_le}
+use Rattle.std.specs.Prelude.{ℕ, Bool, cond, ◌&&◌, List, length, take, drop, Some, None, Ok, Err, Option, Result, nat_le}
 use Rattle.seating.specs.Layouts.{Key}
 use Rattle.names.specs.Blank.{blank}
 use Rattle.names.specs.declared.name.Name.{Name}

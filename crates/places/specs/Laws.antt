@@ -1,5 +1,5 @@
 -- What every place rule shows, for each of our own.
-use Rattle.std.specs.Prelude.{ℕ, ◌+◌, ◌/◌, ◌%◌, ◌^◌, ◌<◌, ◌≤◌, List, [], ◌∷◌, refl}
+use Rattle.std.specs.Prelude.{ℕ, ◌/◌, ◌^◌, ◌≤◌, [], ◌∷◌, refl}
 use Rattle.std.proofs.Common.{mod-lt, arith}
 use Rattle.seating.specs.Layouts.{Key}
 use Rattle.places.specs.DigitCounts.{digits, digit_choices}

@@ -1,10 +1,10 @@
 -- Powers of two up to 512.
-use Rattle.std.specs.Prelude.{◌≡◌, ℕ, ◌%◌, ◌^◌, ◌<◌, ◌≤◌, ◌⊎◌, length, bit_xor}
-use Rattle.std.proofs.Common.{sym, ap, subst, inl, inr, ⊎_elim, mod-lt, arith}
+use Rattle.std.specs.Prelude.{◌≡◌, ℕ, ◌%◌, ◌^◌, ◌<◌, ◌≤◌, bit_xor}
+use Rattle.std.proofs.Common.{mod-lt, arith}
 use Rattle.std.proofs.Math.Nat.{pow-le-pow_right}
 use Rattle.std.proofs.Math.Decide.{dec_le}
 use Rattle.std.proofs.lemmas.Nat.{pow_pos, xor_lt}
-use Rattle.places.specs.Rules.{XorSize, RuleSized}
+use Rattle.places.specs.Rules.{XorSize}
 
 pub power_few : (k n : ℕ) → k ≤ 9 → n ≡ 2 ^ k → n ≤ 512
 power_few k n h e = omega (arith, pow-le-pow_right {n = 2} (omega arith) {i = k} {j = 9} h)

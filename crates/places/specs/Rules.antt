@@ -1,5 +1,5 @@
 -- Place rules: what every rule shows, and the choices of our own, from a word h and the number n of buckets.
-use Rattle.std.specs.Prelude.{◌≡◌, ℕ, ◌+◌, ◌*◌, ◌/◌, ◌%◌, ◌^◌, ◌<◌, ◌≤◌, List, [], ◌∷◌, length, bit_xor}
+use Rattle.std.specs.Prelude.{◌≡◌, ℕ, ◌+◌, ◌/◌, ◌%◌, ◌^◌, ◌<◌, ◌≤◌, List, [], ◌∷◌, length, bit_xor}
 use Rattle.std.specs.List.{AllByRecursion as All}
 use Rattle.places.specs.Words.{fnv}
 

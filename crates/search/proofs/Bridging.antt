@@ -1,18 +1,17 @@
 -- What a search finds, told of cuckoo paths and blocking sets.
-use Rattle.std.proofs.Common.{◌≡◌, ℕ, zero, suc, ◌+◌, ◌*◌, ◌<◌, ◌≤◌, true, ◌⊎◌, ◌↔◌, List, [], ◌∷◌, length, get_or, set, sym, refl, ap, ◌∙◌, subst, inl, inr, arith}
-use mathlib.Core.List.{Memᴰ}
+use Rattle.std.proofs.Common.{◌≡◌, ℕ, zero, suc, ◌+◌, ◌*◌, ◌<◌, ◌≤◌, ◌⊎◌, List, [], ◌∷◌, length, get_or, set, refl, ap, ◌∙◌, inl, inr, arith}
 use Rattle.std.proofs.lemmas.Bool.{eqb-true, eq-eqb}
 use Rattle.search.specs.Queues.{Queue, Seen, slot, link, source, Tidy}
 use Rattle.search.specs.Scenes.{Scene, Near, Way}
 use Rattle.search.specs.Scenes.Way.{last, next}
-use Rattle.search.specs.Searches.{InFirst, Between, onto, Found, Exhausted, Flooding, Waiting, marked, marked_below}
+use Rattle.search.specs.Searches.{InFirst, onto, Found, Exhausted, Flooding, Waiting, marked, marked_below}
 use Rattle.seating.specs.Blocking.{blocking}
 use Rattle.seating.specs.Laws.{Sized}
-use Rattle.seating.specs.Layouts.{Key, Value, Content, Layout, bucket_slots, slots, Candidate, Stash, Allowed}
+use Rattle.seating.specs.Layouts.{Key, Value, Content, Layout, slots, Candidate, Stash}
 use Rattle.seating.specs.Layouts.Content.{vacant, holding}
-use Rattle.seating.specs.Paths.{Path, CuckooPath, Pathless, Shortest, Nearest, carry}
+use Rattle.seating.specs.Paths.{CuckooPath, Pathless, Shortest, Nearest, carry}
 use Rattle.seating.specs.Paths.Path.{last as ends, next as goes}
-use Rattle.seating.specs.Slots.{at, Sits, Occupied}
+use Rattle.seating.specs.Slots.{at, Sits}
 use Rattle.seating.specs.Steps.{Pathed, Rested, Refilled}
 use Rattle.seating.specs.Tables.{Settled}
 use Rattle.search.proofs.Breadth.{length_onto}

@@ -1,13 +1,13 @@
 -- Going on from the stash: all that a stuck key can reach.
-use Rattle.std.proofs.Common.{◌≡◌, ℕ, zero, suc, ◌+◌, ◌<◌, ◌≤◌, ◌⊎◌, ◌↔◌, sym, refl, ap, ◌∙◌, subst, inl, inr, arith}
+use Rattle.std.proofs.Common.{◌≡◌, ℕ, zero, suc, ◌+◌, ◌<◌, ◌≤◌, ◌↔◌, sym, refl, ◌∙◌, subst, inl, inr, arith}
 use Rattle.std.proofs.lemmas.Bool.{cases_lt}
-use Rattle.search.specs.Queues.{Queue, Seen, slot, link, source, Tidy, Grew}
+use Rattle.search.specs.Queues.{Queue, Seen, slot, link, source, Grew}
 use Rattle.search.specs.Scenes.{Scene, Near}
 use Rattle.search.specs.Searches.{Spread, Toward, Between, Level, Nowhere, Exhausted, Closed, Flooding, Before}
 use Rattle.search.proofs.Breadth.{same_source}
 use Rattle.search.proofs.Rooting.{HeldIn, level_any, near_as, near_back}
 use Rattle.search.proofs.Spreading.{stays_seen, grew_as}
-use Rattle.seating.specs.Layouts.{bucket_slots, slots, Stash}
+use Rattle.seating.specs.Layouts.{bucket_slots, slots}
 use Rattle.seating.specs.Slots.{Occupied}
 
 -- a search that found nothing leaves a closed set

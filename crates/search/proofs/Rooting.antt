@@ -1,7 +1,7 @@
 -- A search begins with its roots.
-use Rattle.std.proofs.Common.{◌≡◌, ℕ, zero, suc, ◌+◌, ◌<◌, ◌≤◌, ◌⊎◌, ◌↔◌, List, [], ◌∷◌, length, sym, refl, ap, ◌∙◌, subst, inl, inr, arith}
+use Rattle.std.proofs.Common.{◌≡◌, ℕ, zero, suc, ◌+◌, ◌≤◌, ◌↔◌, List, [], ◌∷◌, length, sym, refl, ◌∙◌, subst, inl, inr, arith}
 use Rattle.std.proofs.lemmas.Bool.{cases_lt}
-use Rattle.search.specs.Queues.{Queue, Seen, slot, link, source, Tidy, Grew, Offered}
+use Rattle.search.specs.Queues.{Queue, Seen, slot, link, source, Tidy, Offered}
 use Rattle.search.specs.Scenes.{Scene, Near, Way}
 use Rattle.search.specs.Scenes.Way.{last, next}
 use Rattle.search.specs.Searches.{Spread, Struck, Toward, Between, Level, Trail, Found, Exhausted, Reach, Reached, Nowhere, Roots}

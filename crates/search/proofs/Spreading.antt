@@ -1,7 +1,7 @@
 -- Parts of a search, one after another.
-use Rattle.std.proofs.Common.{◌≡◌, ℕ, zero, suc, ◌+◌, ◌*◌, ◌<◌, ◌≤◌, ◌⊎◌, List, [], ◌∷◌, length, get_or, sym, refl, ap, ◌∙◌, subst, inl, inr, arith}
+use Rattle.std.proofs.Common.{◌≡◌, ℕ, ◌+◌, ◌*◌, ◌<◌, ◌≤◌, ◌⊎◌, List, get_or, sym, refl, ap, ◌∙◌, inl, inr, arith}
 use Rattle.std.proofs.lemmas.Bool.{cases_lt}
-use Rattle.search.specs.Queues.{Queue, Seen, slot, link, Tidy, Grew, Offered}
+use Rattle.search.specs.Queues.{Queue, Seen, slot, Tidy, Grew, Offered}
 use Rattle.search.specs.Searches.{Spread, Struck, Toward, Between, InFirst}
 use Rattle.seating.specs.Layouts.{Content}
 use Rattle.seating.specs.Layouts.Content.{vacant}

@@ -1,7 +1,7 @@
 -- A way carried out from its last slot back.
-use Rattle.std.proofs.Common.{◌≡◌, ℕ, zero, suc, ◌+◌, ◌<◌, ◌≤◌, List, [], ◌∷◌, length, set, sym, refl, ap, ◌∙◌, subst, arith}
+use Rattle.std.proofs.Common.{◌≡◌, ℕ, suc, ◌≤◌, List, [], ◌∷◌, set, sym, refl, ap, ◌∙◌, subst, arith}
 use mathlib.Core.List.{Memᴰ}
-use Rattle.search.specs.Queues.{Queue, slot, link, Tidy}
+use Rattle.search.specs.Queues.{Queue, slot, link}
 use Rattle.search.specs.Roads.{Full, Road, Halfway}
 use Rattle.search.specs.Scenes.{Scene, Way}
 use Rattle.search.specs.Scenes.Way.{last, next}

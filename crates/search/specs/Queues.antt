@@ -1,5 +1,5 @@
 -- A queue of slots in three lists: whether a slot was seen, the slot of each entry, and the entry that it was reached from.
-use Rattle.std.specs.Prelude.{◌≡◌, ℕ, zero, suc, ◌+◌, ◌*◌, ◌^◌, ◌<◌, ◌≤◌, List, [], ◌∷◌, length, sum, slice_index}
+use Rattle.std.specs.Prelude.{◌≡◌, ℕ, zero, suc, ◌+◌, ◌^◌, ◌<◌, ◌≤◌, List, length, sum, slice_index}
 
 -- the first entries of `at` and `from`, as many as `tail` says, are in use
 pub record Queue : Type 0 where

@@ -1,12 +1,12 @@
 -- Barriers: what the keys of the stash can reach, all of it full, and why a barrier lasts.
-use Rattle.std.proofs.Common.{◌≡◌, ℕ, ◌<◌, ◌≤◌, Bool, true, false, ◌≢◌, ◌⊎◌, List, [], ◌∷◌, length, get_or, set, sym, refl, ◌∙◌, inl, inr, arith}
+use Rattle.std.proofs.Common.{◌≡◌, ℕ, ◌<◌, ◌≤◌, Bool, true, false, ◌≢◌, ◌⊎◌, List, length, set, sym, ◌∙◌, inl, inr, arith}
 use mathlib.Core.List.Memᴰ
 use mathlib.Core.List.{Memᴰ}
 use Rattle.std.proofs.lemmas.List.{get_or-set_same, get_or-set_other, length-set}
 use Rattle.std.proofs.lemmas.Bool.{cases_eq, both_ways}
-use Rattle.seating.specs.Layouts.{Key, Value, Content, Layout, bucket_slots, slots, Stash, Candidate}
+use Rattle.seating.specs.Layouts.{Key, Value, Content, Layout, bucket_slots, Stash, Candidate}
 use Rattle.seating.specs.Layouts.Content.{vacant, holding}
-use Rattle.seating.specs.Paths.{Path, CuckooPath, Distinct, carry}
+use Rattle.seating.specs.Paths.{CuckooPath, Distinct, carry}
 use Rattle.seating.specs.Paths.Path.{last, next}
 use Rattle.seating.specs.Slots.{at, Sits, Occupied}
 use Rattle.seating.specs.Tables.{Lawful}

@@ -1,15 +1,14 @@
 -- The blocking set is what the key can reach by moving held keys about, and the least set of its kind.
-use Rattle.std.proofs.Common.{◌≡◌, ℕ, zero, suc, ◌+◌, ◌/◌, ◌<◌, ◌≤◌, Bool, true, false, ◌&&◌, ◌||◌, eqb, ltb, leb, ◌⊎◌, ◌↔◌, List, [], ◌∷◌, filter, sym, refl, inl, inr, arith}
+use Rattle.std.proofs.Common.{◌≡◌, ℕ, zero, suc, ◌/◌, ◌<◌, ◌≤◌, Bool, true, ◌&&◌, ◌||◌, eqb, ltb, ◌⊎◌, ◌↔◌, List, refl, inl, inr, arith}
 use mathlib.Core.List.{Memᴰ}
-use Rattle.std.specs.List.{range_with_len}
 use Rattle.std.proofs.lemmas.Bool.{cases_eq, or_cases, or_left, or_right, and_parts, and_from, false≢true, ltb-true, lt-ltb, leb-true, le-leb}
 use Rattle.seating.specs.Blocking.{some_of, allows, goes, slots_where, rounds, blocking, Blocks}
-use Rattle.seating.specs.Layouts.{Key, Value, Content, Layout, bucket_slots, slots, Candidate, Stash, Allowed}
+use Rattle.seating.specs.Layouts.{Key, Value, Content, Layout, bucket_slots, slots, Allowed}
 use Rattle.seating.specs.Layouts.Content.{vacant, holding}
 use Rattle.seating.specs.Slots.{at, Sits}
 use Rattle.seating.specs.Theorems.{Ascending, BlockingLeast}
 use Rattle.seating.proofs.Counts.{count, differ, count_all}
-use Rattle.seating.proofs.Listing.{some_in, in_some, among_in, in_among, listed_in, in_listed, listed_ascends, listed_same, agree}
+use Rattle.seating.proofs.Listing.{some_in, in_some, among_in, in_among, listed_in, in_listed, listed_ascends}
 use Rattle.seating.proofs.Sitting.{in_slots}
 
 -- the slots that a key can come to by moving held keys about

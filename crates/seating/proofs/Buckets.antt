@@ -1,8 +1,8 @@
 -- A slot's bucket by division is the bucket in whose range the slot lies.
-use Rattle.std.proofs.Common.{◌≡◌, ℕ, ◌+◌, ◌*◌, ◌/◌, ◌%◌, ◌<◌, ◌≤◌, List, sym, subst, mul-le-mul_right, mod-lt, add-mul, one-mul, div-add-mod', arith}
+use Rattle.std.proofs.Common.{◌≡◌, ℕ, ◌+◌, ◌/◌, ◌<◌, sym, subst, mul-le-mul_right, mod-lt, add-mul, one-mul, div-add-mod', arith}
 use mathlib.Core.List.{Memᴰ}
 use native.Mathlib.Nat.{div-eq_of_lt-le}
-use Rattle.seating.specs.Layouts.{Key, Layout, bucket_slots, InBucket, Candidate}
+use Rattle.seating.specs.Layouts.{Layout, bucket_slots, InBucket}
 use Rattle.seating.specs.Laws.{Sized, CandidatesAreBuckets}
 
 in_own_bucket : (L : Layout) → Sized L → (i : ℕ) → InBucket L (i / L.width) i

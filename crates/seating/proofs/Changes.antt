@@ -1,13 +1,13 @@
 -- What is held after a put or a drop that was done.
-use Rattle.std.proofs.Common.{◌≡◌, ℕ, ◌<◌, ◌≢◌, ◌⊎◌, ◌↔◌, List, length, get_or, set, sym, refl, ◌∙◌, inl, inr, arith}
+use Rattle.std.proofs.Common.{◌≡◌, ℕ, ◌<◌, ◌≢◌, ◌⊎◌, ◌↔◌, List, length, set, sym, refl, ◌∙◌, inl, inr, arith}
 use Rattle.std.proofs.lemmas.List.{get_or-set_same, get_or-set_other, length-set}
 use Rattle.std.proofs.lemmas.Bool.{cases_eq}
 use Rattle.seating.specs.Layouts.{Key, Value, Content, Layout}
 use Rattle.seating.specs.Layouts.Content.{vacant, holding}
 use Rattle.seating.specs.Paths.{carry}
 use Rattle.seating.specs.Slots.{at, Sits, Held, Stored}
-use Rattle.seating.specs.Steps.{Pathed, Stowed, Rested, Refilled, Found, Missing}
-use Rattle.seating.specs.Tables.{Lawful, Sound}
+use Rattle.seating.specs.Steps.{Pathed, Stowed, Rested, Refilled, Missing}
+use Rattle.seating.specs.Tables.{Lawful}
 use Rattle.seating.specs.Theorems.{Gains}
 use Rattle.seating.proofs.Keeping.{missing_not_held, pathed, stashed, refilled, turn}
 use Rattle.seating.proofs.Loops.{shortest_distinct}

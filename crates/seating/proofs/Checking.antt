@@ -1,22 +1,21 @@
 -- Tests that decide, by computing, that there is no path and that an assignment is one.
-use Rattle.std.proofs.Common.{◌≡◌, ℕ, ◌/◌, ◌<◌, Bool, true, false, not, ◌&&◌, ◌||◌, eqb, ltb, ◌⊎◌, List, [], ◌∷◌, sym, refl, ap, ◌∙◌, inl, inr, arith}
+use Rattle.std.proofs.Common.{◌≡◌, ℕ, ◌/◌, ◌<◌, Bool, true, false, not, ◌&&◌, ◌||◌, eqb, ltb, List, [], ◌∷◌, inl, inr, arith}
 use mathlib.Core.List.Memᴰ
 use mathlib.Core.List.{Memᴰ}
 use Rattle.std.specs.List.{range_with_len}
 use Rattle.std.specs.Str.{bytes_eq}
 use Rattle.std.proofs.lemmas.Slice.Eq.{bytes_eq-Decides}
-use Rattle.std.proofs.lemmas.Bool.{and_parts, or_cases, both_ways, not-true, eq-eqb, lt-ltb, ltb-true, false≢true}
+use Rattle.std.proofs.lemmas.Bool.{and_parts, or_cases, both_ways, not-true, eq-eqb, ltb-true, false≢true}
 use Rattle.seating.specs.Assignments.{Seats}
 use Rattle.seating.specs.Blocking.{some_of, allows}
 use Rattle.seating.specs.Layouts.{Key, Content, Layout, bucket_slots, slots, Candidate}
 use Rattle.seating.specs.Layouts.Content.{vacant, holding}
-use Rattle.seating.specs.Paths.{Path, CuckooPath, Pathless}
+use Rattle.seating.specs.Paths.{CuckooPath, Pathless}
 use Rattle.seating.specs.Paths.Path.{last, next}
-use Rattle.seating.specs.Slots.{at, Sits}
+use Rattle.seating.specs.Slots.{at}
 use Rattle.seating.proofs.Blockings.{allows_may}
 use Rattle.seating.proofs.Listing.{in_among}
 use Rattle.seating.proofs.Looking.{in_counting}
-use Rattle.seating.proofs.Sitting.{not_both}
 
 -- P holds of each element
 abbrev each_of : {A : Type 0} → (A → Bool) → List A → Bool

@@ -1,16 +1,16 @@
 -- Every call has a step, and every list of calls a run.
-use Rattle.std.proofs.Common.{◌≡◌, ℕ, suc, ◌+◌, ◌*◌, ◌<◌, ◌≤◌, ◌⊎◌, ◌↔◌, List, [], ◌∷◌, ◌++◌, length, drop as past, set, replicate, Some, sym, refl, ap, ◌∙◌, subst, inl, inr, arith}
+use Rattle.std.proofs.Common.{◌≡◌, ℕ, ◌*◌, ◌⊎◌, List, [], ◌∷◌, ◌++◌, length, drop as past, set, replicate, refl, subst, inl, inr, arith}
 use Rattle.std.proofs.lemmas.List.{length-replicate}
 use Rattle.seating.specs.Blocking.{blocking}
-use Rattle.seating.specs.Calls.{Call, Nothing, Holds}
+use Rattle.seating.specs.Calls.{Nothing}
 use Rattle.seating.specs.Calls.Call.{put, drop}
-use Rattle.seating.specs.Layouts.{Key, Value, Content, Layout, slots, Stash, Candidate, Allowed}
+use Rattle.seating.specs.Layouts.{Key, Content, Layout, slots, Stash, Allowed}
 use Rattle.seating.specs.Layouts.Content.{vacant, holding}
-use Rattle.seating.specs.Paths.{CuckooPath, carry}
+use Rattle.seating.specs.Paths.{carry}
 use Rattle.seating.specs.Runs.{Ran, fresh, PutExists, DropExists, RunExists, HeldMap}
 use Rattle.seating.specs.Runs.Ran.{begun, putting, dropping}
-use Rattle.seating.specs.Slots.{at, Sits, Stored, stashed, value_of}
-use Rattle.seating.specs.Steps.{Lent, Roomy, Found, Missing, Stuck, blank, PutAnswer, PutDoes, DropAnswer, DropDoes}
+use Rattle.seating.specs.Slots.{at, Sits}
+use Rattle.seating.specs.Steps.{Lent, Found, Missing, blank}
 use Rattle.seating.specs.Steps.PutAnswer.{seated, renewed, too_short, full}
 use Rattle.seating.specs.Steps.DropAnswer.{dropped, too_short as lentShort, not_held}
 use Rattle.seating.proofs.Deciding.{Either, both?, le?, some?}

@@ -1,5 +1,5 @@
 -- What is done within the first slots of a bank is done to them.
-use Rattle.std.proofs.Common.{◌≡◌, ℕ, zero, suc, ◌+◌, ◌*◌, ◌<◌, ◌≤◌, ◌⊎◌, List, [], ◌∷◌, ◌++◌, length, get_or, take, drop as past, set, sym, refl, ap, ◌∙◌, inl, inr, arith, get_or-take, take-take}
+use Rattle.std.proofs.Common.{◌≡◌, ℕ, zero, suc, ◌+◌, ◌*◌, ◌<◌, ◌≤◌, ◌⊎◌, List, [], ◌∷◌, length, take, drop as past, set, sym, refl, ap, ◌∙◌, inl, inr, arith, get_or-take, take-take}
 use mathlib.Core.List.Memᴰ
 use mathlib.Core.List.{Memᴰ}
 use lib.Seq.{take-set-lt}
@@ -8,12 +8,12 @@ use Rattle.std.proofs.lemmas.List.{drop-set-lt, drop-take}
 use Rattle.seating.specs.Blocking.{blocking}
 use Rattle.seating.specs.Fronts.{front, rest, PutFront, DropFront, GetFront}
 use Rattle.seating.specs.Laws.{Sized}
-use Rattle.seating.specs.Layouts.{Key, Value, Content, Layout, bucket_slots, slots, Stash, Candidate, Allowed}
+use Rattle.seating.specs.Layouts.{Key, Value, Content, Layout, bucket_slots, slots, Allowed}
 use Rattle.seating.specs.Layouts.Content.{vacant, holding}
 use Rattle.seating.specs.Lookups.{bucket_list, look_order, look_in}
 use Rattle.seating.specs.Paths.{CuckooPath, Pathless, Shortest, Nearest, carry}
 use Rattle.seating.specs.Slots.{at, Sits, keys, stashed}
-use Rattle.seating.specs.Steps.{Lent, Found, Missing, Pathed, Stowed, Stuck, Rested, Refilled, PutAnswer, PutDoes, DropAnswer, DropDoes}
+use Rattle.seating.specs.Steps.{Found, Missing, Rested, Refilled}
 use Rattle.seating.specs.Steps.PutAnswer.{seated, renewed, too_short, full}
 use Rattle.seating.specs.Steps.DropAnswer.{dropped, too_short as lentShort, not_held}
 use Rattle.seating.specs.Tables.{Settled}

@@ -1,5 +1,5 @@
 -- What the calls' arguments tell of the held keys is what the slots hold.
-use Rattle.std.proofs.Common.{◌≡◌, ℕ, zero, suc, ◌<◌, ◌≤◌, ◌≢◌, ◌⊎◌, ◌↔◌, List, [], ◌∷◌, length, replicate, sym, refl, ◌∙◌, inl, inr, arith}
+use Rattle.std.proofs.Common.{◌≡◌, ℕ, zero, suc, ◌≢◌, ◌⊎◌, ◌↔◌, List, length, replicate, refl, inl, inr, arith}
 use Rattle.std.proofs.lemmas.List.{length-replicate}
 use Rattle.seating.specs.Assignments.{Seatable, Unseatable}
 use Rattle.seating.specs.Calls.{Call, Ample, Holdings, Nothing, Has, With, After, Holds}
@@ -15,7 +15,7 @@ use Rattle.seating.specs.Steps.PutAnswer.{seated, renewed, too_short, full}
 use Rattle.seating.specs.Steps.DropAnswer.{dropped, too_short as lentShort, not_held}
 use Rattle.seating.specs.Tables.{Lawful, Sound}
 use Rattle.seating.specs.Theorems.{Beside}
-use Rattle.seating.proofs.Changes.{Becomes, Loses, seated_becomes, renewed_becomes, dropped_loses}
+use Rattle.seating.proofs.Changes.{Becomes, seated_becomes, renewed_becomes, dropped_loses}
 use Rattle.seating.proofs.Keeping.{missing_not_held, put_sound_lem, drop_sound_lem}
 use Rattle.seating.proofs.Refusals.{refusal_honest_lem}
 use Rattle.seating.proofs.Settling.{stuck_blocked_lem}

@@ -1,20 +1,20 @@
 -- Every call keeps the invariant.
-use Rattle.std.proofs.Common.{◌≡◌, ℕ, zero, suc, ◌<◌, ◌≤◌, Bool, true, false, ◌≢◌, ◌⊎◌, List, [], ◌∷◌, ◌++◌, length, get_or, take, drop as past, set, replicate, sym, refl, ◌∙◌, inl, inr, arith}
+use Rattle.std.proofs.Common.{◌≡◌, ℕ, ◌<◌, List, [], ◌∷◌, length, set, sym, ◌∙◌, inl, inr, arith}
 use mathlib.Core.List.Memᴰ
 use mathlib.Core.List.{Memᴰ}
-use Rattle.std.proofs.lemmas.List.{get_or-set_same, get_or-set_other, length-set, length-replicate}
+use Rattle.std.proofs.lemmas.List.{get_or-set_same, get_or-set_other, length-set}
 use Rattle.std.proofs.lemmas.Bool.{cases_eq, cases_Bool}
-use Rattle.seating.specs.Layouts.{Key, Value, Content, Layout, bucket_slots, slots, Stash, Candidate}
+use Rattle.seating.specs.Layouts.{Key, Value, Content, Layout, bucket_slots, Stash}
 use Rattle.seating.specs.Layouts.Content.{vacant, holding}
-use Rattle.seating.specs.Paths.{Path, CuckooPath, Pathless, Shortest, Distinct, carry}
-use Rattle.seating.specs.Paths.Path.{last, next}
+use Rattle.seating.specs.Paths.{CuckooPath, Pathless, Distinct, carry}
+use Rattle.seating.specs.Paths.Path.{last}
 use Rattle.seating.specs.Slots.{at, Sits, Held}
-use Rattle.seating.specs.Steps.{Lent, Missing, Pathed, Stowed, Rested, Refilled, PutAnswer, PutDoes, DropAnswer, DropDoes}
+use Rattle.seating.specs.Steps.{Missing}
 use Rattle.seating.specs.Steps.PutAnswer.{seated, renewed, too_short, full}
 use Rattle.seating.specs.Steps.DropAnswer.{dropped, too_short as lentShort, not_held}
 use Rattle.seating.specs.Tables.{Lawful, Settled, Sound}
 use Rattle.seating.specs.Theorems.{Gains, PutSound, DropSound}
-use Rattle.seating.proofs.Barriers.{Barrier, barrier_stays, barrier_refilled, barrier_spared}
+use Rattle.seating.proofs.Barriers.{barrier_stays, barrier_refilled, barrier_spared}
 use Rattle.seating.proofs.Carrying.{carried_out_lem, path_wider, path_set, carry_set}
 use Rattle.seating.proofs.Loops.{low_path, shortest_distinct}
 use Rattle.seating.proofs.Settling.{barred, barrier_settled, path_same}

@@ -1,11 +1,11 @@
 -- Beside a barrier the stash is as empty as it can be.
-use Rattle.std.proofs.Common.{◌≡◌, ℕ, zero, suc, ◌+◌, ◌<◌, ◌≤◌, Bool, true, false, cond, not, ◌&&◌, ◌||◌, leb, ◌⊎◌, List, [], ◌∷◌, length, get_or, take, drop, count_by, sym, refl, ap, ◌∙◌, inl, inr, arith, length-drop}
+use Rattle.std.proofs.Common.{◌≡◌, ℕ, zero, suc, ◌+◌, ◌<◌, ◌≤◌, Bool, true, false, cond, not, ◌&&◌, ◌||◌, leb, ◌⊎◌, List, [], ◌∷◌, length, drop, count_by, sym, refl, ap, ◌∙◌, inl, inr, arith, length-drop}
 use Rattle.std.proofs.lemmas.List.{take_all}
 use Rattle.std.proofs.lemmas.List.Sums.{sum_by-cons}
 use Rattle.std.proofs.lemmas.Bool.{false≢true, and_parts, or_cases, leb-true, not-true, leb-false}
 use Rattle.std.proofs.lemmas.Bool.Decides.{nat_tests}
 use Rattle.seating.specs.Assignments.{Seats, stashed_by}
-use Rattle.seating.specs.Layouts.{Key, Value, Content, Layout, bucket_slots, slots, Stash, Candidate, Allowed}
+use Rattle.seating.specs.Layouts.{Key, Value, Content, Layout, bucket_slots, Stash, Candidate, Allowed}
 use Rattle.seating.specs.Layouts.Content.{vacant, holding}
 use Rattle.seating.specs.Slots.{at, Sits, Held, keys, stashed}
 use Rattle.seating.specs.Tables.{Lawful}

@@ -1,16 +1,14 @@
 -- Looking a key up goes through every slot that it may take.
-use Rattle.std.proofs.Common.{◌≡◌, ℕ, zero, suc, ◌+◌, ◌*◌, ◌/◌, ◌%◌, ◌<◌, ◌≤◌, ◌⊎◌, List, [], ◌∷◌, ◌++◌, length, Some, None, sym, refl, ap, ◌∙◌, inl, inr, mod-lt, add-mul, one-mul, mul-zero, div-add-mod', arith, length-append}
+use Rattle.std.proofs.Common.{◌≡◌, ℕ, zero, suc, ◌+◌, ◌*◌, ◌/◌, ◌<◌, ◌≤◌, ◌⊎◌, List, [], ◌∷◌, ◌++◌, length, Some, None, sym, refl, ap, ◌∙◌, inl, inr, mod-lt, add-mul, one-mul, mul-zero, div-add-mod', arith, length-append}
 use mathlib.Core.List.Memᴰ
 use mathlib.Core.List.{Memᴰ}
 use Rattle.std.specs.List.{range_with_len, flat_map}
 use Rattle.std.proofs.lemmas.List.FromFn.{length-range_with_len}
-use Rattle.std.proofs.lemmas.Bool.{cases_eq, cases_lt}
-use Rattle.seating.specs.Layouts.{Key, Value, Content, Layout, bucket_slots, Candidate, Stash, Allowed}
-use Rattle.seating.specs.Layouts.Content.{holding}
+use Rattle.std.proofs.lemmas.Bool.{cases_eq}
+use Rattle.seating.specs.Layouts.{Key, Value, Content, Layout, bucket_slots, Allowed}
 use Rattle.seating.specs.Lookups.{bucket_list, look_order, look_in, lookup}
 use Rattle.seating.specs.Maps.{GetMapLaw}
-use Rattle.seating.specs.Slots.{at, Sits, Stored, value_at, value_of}
-use Rattle.seating.specs.Tables.{Lawful}
+use Rattle.seating.specs.Slots.{at, Sits, Stored, value_of}
 use Rattle.seating.proofs.Values.{has_or_not, stored_value, absent_value}
 
 pub in_counting : (a n i : ℕ) → a ≤ i → i < a + n → Memᴰ i (range_with_len a n)

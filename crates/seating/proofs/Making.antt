@@ -1,8 +1,8 @@
 -- A table made new.
-use Rattle.std.proofs.Common.{◌≡◌, ℕ, List, ◌++◌, length, take, drop as past, replicate, sym, refl, ap, ◌∙◌}
+use Rattle.std.proofs.Common.{ℕ, ◌++◌, take, drop as past, sym, ap, ◌∙◌}
 use lib.Seq.{take-append_seam, drop-append_seam}
 use Rattle.std.proofs.lemmas.List.{length-replicate}
-use Rattle.seating.specs.Layouts.{Content, Layout, slots}
+use Rattle.seating.specs.Layouts.{slots}
 use Rattle.seating.specs.Layouts.Content.{vacant}
 use Rattle.seating.specs.Runs.{fresh}
 use Rattle.seating.specs.Theorems.{MakeSound}

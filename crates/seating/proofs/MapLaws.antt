@@ -1,18 +1,17 @@
 -- Put and drop change the map read off the slots as a map is changed.
-use Rattle.std.proofs.Common.{◌≡◌, ℕ, ◌≢◌, ◌⊎◌, ◌↔◌, List, Some, None, Option, sym, refl, ◌∙◌, inl, inr}
+use Rattle.std.proofs.Common.{◌≡◌, ℕ, ◌≢◌, List, Some, None, sym, refl, ◌∙◌, inl, inr}
 use Rattle.std.specs.Map.{update}
 use Rattle.std.specs.Str.{bytes_eq}
 use Rattle.std.proofs.lemmas.Slice.Eq.{bytes_eq-Decides}
 use Rattle.std.proofs.lemmas.Map.{update_same, update_other}
 use Rattle.std.proofs.lemmas.Bool.{cases_Bool, both_ways}
 use Rattle.seating.specs.Layouts.{Key, Value, Content, Layout}
-use Rattle.seating.specs.Layouts.Content.{holding}
 use Rattle.seating.specs.Maps.{Same, Known, PutMapLaw, DropMapLaw}
-use Rattle.seating.specs.Slots.{at, Sits, Held, Stored, value_of}
-use Rattle.seating.specs.Steps.{Lent, Missing, PutAnswer, PutDoes, DropAnswer, DropDoes}
+use Rattle.seating.specs.Slots.{Sits, Stored, value_of}
+use Rattle.seating.specs.Steps.{Missing}
 use Rattle.seating.specs.Steps.PutAnswer.{seated, renewed, too_short, full}
 use Rattle.seating.specs.Steps.DropAnswer.{dropped, too_short as lentShort, not_held}
-use Rattle.seating.specs.Tables.{Lawful, Sound}
+use Rattle.seating.specs.Tables.{Lawful}
 use Rattle.seating.proofs.Changes.{Becomes, Loses, seated_becomes, renewed_becomes, dropped_loses}
 use Rattle.seating.proofs.Keeping.{missing_not_held, put_sound_lem, drop_sound_lem}
 use Rattle.seating.proofs.Values.{option, value_stored, value_none, absent_value, stored_value}

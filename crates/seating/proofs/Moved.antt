@@ -1,5 +1,5 @@
 -- The moves that put and drop answer are those that the slots show.
-use Rattle.std.proofs.Common.{◌≡◌, ℕ, suc, ◌+◌, ◌<◌, ◌≤◌, ◌≢◌, ◌⊎◌, List, [], ◌∷◌, length, get_or, set, sym, refl, ◌∙◌, inl, inr, arith}
+use Rattle.std.proofs.Common.{◌≡◌, ℕ, ◌+◌, ◌<◌, ◌≤◌, ◌≢◌, List, [], ◌∷◌, length, set, sym, refl, ◌∙◌, inl, inr, arith}
 use mathlib.Core.List.Memᴰ
 use mathlib.Core.List.{Memᴰ}
 use Rattle.std.proofs.lemmas.List.{get_or-set_other, length-set}
@@ -7,19 +7,16 @@ use Rattle.std.proofs.lemmas.Bool.{cases_eq}
 use Rattle.seating.specs.Layouts.{Key, Value, Content, Layout, slots, Stash}
 use Rattle.seating.specs.Layouts.Content.{vacant, holding}
 use Rattle.seating.specs.Paths.{Path, CuckooPath, Distinct, carry}
-use Rattle.seating.specs.Paths.Path.{last, next}
 use Rattle.seating.specs.Slots.{at, Sits, Held, moved}
-use Rattle.seating.specs.Steps.{Lent, Pathed, Stowed, Rested, Refilled}
 use Rattle.seating.specs.Steps.PutAnswer.{seated}
 use Rattle.seating.specs.Steps.DropAnswer.{dropped}
-use Rattle.seating.specs.Tables.{Lawful, Sound}
+use Rattle.seating.specs.Tables.{Lawful}
 use Rattle.seating.specs.Theorems.{PutMoves, DropMoves}
-use Rattle.seating.proofs.Carrying.{carry_off}
 use Rattle.seating.proofs.Changes.{Loses, dropped_loses}
 use Rattle.seating.proofs.Keeping.{put_sound_lem, drop_sound_lem}
 use Rattle.seating.proofs.Loops.{low_path, shortest_distinct}
 use Rattle.seating.proofs.Moves.{initial, initial_in, initial_distinct, length_initial, carry_first, path_moves, off_path, moved_count}
-use Rattle.seating.proofs.Sitting.{not_both, sits_low, sits_vacated, vacated_lawful}
+use Rattle.seating.proofs.Sitting.{not_both, sits_low, sits_vacated}
 
 -- the length of a path, one more than the slots before its last
 inner_length : {May : Key → ℕ → Type 0} {xs : List Content} {k : Key} (is : List ℕ) → Path May xs k is → length (initial is) + 1 ≡ length is

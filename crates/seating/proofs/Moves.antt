@@ -1,15 +1,15 @@
 -- The keys that moved, counted: those on the path that was carried out.
-use Rattle.std.proofs.Common.{◌≡◌, ℕ, zero, suc, ◌+◌, ◌<◌, ◌≤◌, Bool, true, false, not, ◌&&◌, eqb, ltb, ◌≢◌, ◌⊎◌, List, [], ◌∷◌, length, get_or, set, is_some, Some, None, sym, refl, ap, ◌∙◌, inl, inr, arith}
+use Rattle.std.proofs.Common.{◌≡◌, ℕ, zero, suc, ◌+◌, ◌<◌, ◌≤◌, Bool, true, false, not, ◌&&◌, eqb, ltb, ◌≢◌, ◌⊎◌, List, [], ◌∷◌, length, is_some, sym, refl, ap, ◌∙◌, inl, inr, arith}
 use mathlib.Core.List.Memᴰ
 use mathlib.Core.List.{Memᴰ}
 use Rattle.std.proofs.lemmas.List.{get_or-set_same, get_or-set_other, length-set}
 use Rattle.std.proofs.lemmas.Bool.{and_parts, and_from, or_cases, or_right, not_from_false, not-true, ne_eqb, eq-eqb, lt-ltb, both_ways, false≢true}
 use Rattle.seating.specs.Blocking.{some_of}
-use Rattle.seating.specs.Layouts.{Key, Value, Content, Layout, slots, Candidate}
-use Rattle.seating.specs.Layouts.Content.{vacant, holding}
+use Rattle.seating.specs.Layouts.{Key, Content, Layout, slots}
+use Rattle.seating.specs.Layouts.Content.{vacant}
 use Rattle.seating.specs.Paths.{Path, CuckooPath, Distinct, carry}
 use Rattle.seating.specs.Paths.Path.{last, next}
-use Rattle.seating.specs.Slots.{at, Sits, Held, keys, value_of, slot_of, moved}
+use Rattle.seating.specs.Slots.{at, Sits, Held, value_of, slot_of, moved}
 use Rattle.seating.specs.Tables.{Lawful}
 use Rattle.seating.proofs.Carrying.{carry_off}
 use Rattle.seating.proofs.Counts.{bit, count, without, count_without, count_same}
@@ -17,7 +17,7 @@ use Rattle.seating.proofs.Least.{passing, count_keys}
 use Rattle.seating.proofs.Listing.{agree, among_in, in_among}
 use Rattle.seating.proofs.Loops.{mem?, low_path}
 use Rattle.seating.proofs.Sitting.{not_both, content, sits_low}
-use Rattle.seating.proofs.Values.{slot_is, stored_value, absent_value, value_stored, option}
+use Rattle.seating.proofs.Values.{slot_is, stored_value, absent_value}
 
 count_none : (n : ℕ) → count (λ i. false) n ≡ 0
 count_none zero = refl

@@ -1,9 +1,8 @@
 -- Keys in listed slots are no more than the slots.
 use Rattle.std.proofs.Common.{◌≡◌, ℕ, zero, suc, ◌<◌, true, List, [], ◌∷◌, length, get_or, sym, refl, ◌∙◌, arith}
 use mathlib.Core.List.{Memᴰ}
-use Rattle.seating.specs.Layouts.{Key}
 use Rattle.seating.specs.Theorems.{Pigeonhole}
-use Rattle.seating.proofs.Counts.{count, pigeon, all_count}
+use Rattle.seating.proofs.Counts.{pigeon, all_count}
 
 pub place : {a : ℕ} {cs : List ℕ} → Memᴰ a cs → (j : ℕ) × (j < length cs) × (a ≡ get_or cs j 0)
 place (Memᴰ.head e) = (0, omega arith, e)

@@ -1,14 +1,14 @@
 -- Why a refusal is right: a full blocking set leaves no seating, and only the keys in it can help.
-use Rattle.std.proofs.Common.{◌≡◌, ℕ, ◌<◌, ◌≤◌, Bool, true, false, eqb, ◌≢◌, ◌⊎◌, ◌↔◌, List, [], ◌∷◌, length, get_or, set, sym, refl, ap, ◌∙◌, inl, inr, arith}
+use Rattle.std.proofs.Common.{◌≡◌, ℕ, ◌<◌, ◌≤◌, Bool, true, false, eqb, ◌≢◌, ◌⊎◌, List, [], ◌∷◌, length, set, sym, refl, ap, ◌∙◌, inl, inr, arith}
 use mathlib.Core.List.Memᴰ
 use mathlib.Core.List.{Memᴰ}
 use Rattle.std.proofs.lemmas.List.{get_or-set_same, get_or-set_other}
 use Rattle.std.proofs.lemmas.Bool.{cases_eq, cases_Bool, both_ways, and_from, not_from_false, ne_eqb, lt-ltb}
 use Rattle.seating.specs.Assignments.{Seats, Seatable}
-use Rattle.seating.specs.Blocking.{some_of, blocking, Blocks}
+use Rattle.seating.specs.Blocking.{some_of, blocking}
 use Rattle.seating.specs.Layouts.{Key, Content, Layout, slots, Stash, Candidate, Allowed}
 use Rattle.seating.specs.Layouts.Content.{vacant, holding}
-use Rattle.seating.specs.Paths.{Path, carry}
+use Rattle.seating.specs.Paths.{carry}
 use Rattle.seating.specs.Paths.Path.{last, next}
 use Rattle.seating.specs.Slots.{at, Sits, Held, slot_of, Occupied}
 use Rattle.seating.specs.Tables.{Lawful}
@@ -19,7 +19,7 @@ use Rattle.seating.proofs.Carrying.{carried_out_lem}
 use Rattle.seating.proofs.Counts.{bit, count, without, count_without, pigeon}
 use Rattle.seating.proofs.Listing.{among_in, in_among}
 use Rattle.seating.proofs.Loops.{mem?, Route, shorter}
-use Rattle.seating.proofs.Sitting.{sits_vacated, sits_low, in_slots, vacated_lawful}
+use Rattle.seating.proofs.Sitting.{sits_vacated, sits_low, vacated_lawful}
 use Rattle.seating.proofs.Values.{table_seats, fewer}
 
 -- a set of full slots with all of the stash, which no key in it can leave

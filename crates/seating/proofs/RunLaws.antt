@@ -1,15 +1,14 @@
 -- The law of every run.
-use Rattle.std.proofs.Common.{◌≡◌, ℕ, ◌<◌, ◌≤◌, ◌≢◌, ◌⊎◌, ◌↔◌, List, [], ◌∷◌, ◌++◌, length, take, drop as past, sym, refl, ap, ◌∙◌, inl, inr, arith}
-use mathlib.Core.List.{Memᴰ}
+use Rattle.std.proofs.Common.{◌≡◌, ℕ, ◌≢◌, ◌↔◌, List, ◌∷◌, length, take, refl, ap, ◌∙◌, inl, inr, arith}
 use lib.Seq.{take-append_seam}
-use Rattle.seating.specs.Assignments.{Seats, Seatable}
+use Rattle.seating.specs.Assignments.{Seatable}
 use Rattle.seating.specs.Blocking.{blocking}
-use Rattle.seating.specs.Calls.{Call, Holdings, Nothing, Has, With, Holds}
+use Rattle.seating.specs.Calls.{Holdings, Nothing, Has, With, Holds}
 use Rattle.seating.specs.Calls.Call.{put}
 use Rattle.seating.specs.Layouts.{Key, Value, Content, Layout}
-use Rattle.seating.specs.Runs.{Ran, fresh, Refused, Accepted, Decided, Named, Others, Blamed, Kept, Law, Outcome, RunLaw, RunLawFrom, OutcomeLaw}
+use Rattle.seating.specs.Runs.{fresh, Decided, Named, Others, Blamed, Kept, Law, RunLaw, RunLawFrom, OutcomeLaw}
 use Rattle.seating.specs.Runs.Ran.{putting}
-use Rattle.seating.specs.Slots.{Sits, Held, Stored}
+use Rattle.seating.specs.Slots.{Held, Stored}
 use Rattle.seating.specs.Steps.{Lent, Roomy, Stuck, Missing, PutAnswer, PutDoes}
 use Rattle.seating.specs.Steps.PutAnswer.{seated, renewed, too_short, full}
 use Rattle.seating.specs.Tables.{Sound}

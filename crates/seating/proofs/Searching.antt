@@ -1,14 +1,13 @@
 -- A shortest path is found, or there is none: the paths of each length are looked through.
 use Rattle.std.proofs.Common.{◌≡◌, ℕ, zero, suc, ◌/◌, ◌<◌, ◌≤◌, true, ◌⊎◌, List, [], ◌∷◌, length, get_or, sym, refl, ap, ◌∙◌, inl, inr, arith}
 use mathlib.Core.List.{Memᴰ}
-use Rattle.std.proofs.lemmas.Bool.{cases_eq, cases_lt}
 use Rattle.seating.specs.Layouts.{Key, Value, Content, Layout, bucket_slots, slots, Stash, Candidate}
 use Rattle.seating.specs.Layouts.Content.{vacant, holding}
 use Rattle.seating.specs.Paths.{Path, CuckooPath, Pathless, Shortest, Nearest, Distinct}
 use Rattle.seating.specs.Paths.Path.{last, next}
 use Rattle.seating.specs.Slots.{at, Sits}
 use Rattle.seating.specs.Tables.{Settled}
-use Rattle.seating.proofs.Counts.{count, pigeon, all_count}
+use Rattle.seating.proofs.Counts.{pigeon, all_count}
 use Rattle.seating.proofs.Deciding.{Either, both?, le?, lt?, some?, least?}
 use Rattle.seating.proofs.Loops.{mem?, loopless, low_path}
 use Rattle.seating.proofs.Pigeons.{member}

@@ -1,10 +1,10 @@
 -- Where no key of the stash has a path there is a barrier, so the stash is least, and a stuck key is blocked.
-use Rattle.std.proofs.Common.{◌≡◌, ℕ, zero, suc, ◌<◌, ◌≤◌, Bool, true, false, ◌||◌, eqb, ◌⊎◌, List, [], ◌∷◌, sym, refl, ◌∙◌, inl, inr, arith}
+use Rattle.std.proofs.Common.{◌≡◌, ℕ, zero, suc, ◌<◌, Bool, true, false, ◌||◌, eqb, List, [], ◌∷◌, inl, inr, arith}
 use Rattle.std.proofs.lemmas.Bool.{cases_eq, cases_lt, or_cases, or_left, or_right, false≢true, eqb-true, eq-eqb}
 use Rattle.seating.specs.Assignments.{stashed_by}
 use Rattle.seating.specs.Layouts.{Key, Content, Layout, bucket_slots, Stash, Candidate, Allowed}
 use Rattle.seating.specs.Layouts.Content.{vacant}
-use Rattle.seating.specs.Paths.{Path, CuckooPath, Pathless}
+use Rattle.seating.specs.Paths.{Path, Pathless}
 use Rattle.seating.specs.Paths.Path.{last, next}
 use Rattle.seating.specs.Slots.{at, Sits, Occupied, keys, stashed}
 use Rattle.seating.specs.Tables.{Settled, Sound}

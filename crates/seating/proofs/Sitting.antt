@@ -1,10 +1,10 @@
 -- Who sits where, and what is held, after a slot was filled or emptied.
-use Rattle.std.proofs.Common.{◌≡◌, ℕ, zero, suc, ◌<◌, ◌≢◌, ◌⊎◌, List, [], ◌∷◌, length, get_or, set, sym, refl, ◌∙◌, inl, inr, arith}
+use Rattle.std.proofs.Common.{◌≡◌, ℕ, ◌<◌, ◌≢◌, ◌⊎◌, List, length, set, sym, refl, ◌∙◌, inl, inr, arith}
 use Rattle.std.proofs.lemmas.List.{get_or-set_same, get_or-set_other, length-set}
 use Rattle.std.proofs.lemmas.Bool.{cases_eq}
 use Rattle.seating.specs.Layouts.{Key, Value, Content, Layout, slots, Allowed}
 use Rattle.seating.specs.Layouts.Content.{vacant, holding}
-use Rattle.seating.specs.Slots.{at, Sits, Stored, Occupied, Held}
+use Rattle.seating.specs.Slots.{at, Sits, Stored, Occupied}
 use Rattle.seating.specs.Tables.{Lawful}
 
 pub not_both : (c : Content) (k : Key) (v : Value) → c ≡ vacant → c ≡ holding k v → ⊥

@@ -1,20 +1,19 @@
 -- The worked run, step by step.
-use Rattle.std.proofs.Common.{◌≡◌, ℕ, ◌/◌, ◌<◌, ◌≤◌, true, eqb, ltb, ◌⊎◌, ◌↔◌, List, [], ◌∷◌, length, drop as past, set, None, codes, sym, refl, ◌∙◌, inl, inr, arith}
-use mathlib.Core.List.{Memᴰ}
+use Rattle.std.proofs.Common.{◌≡◌, ℕ, ◌≤◌, ltb, List, [], ◌∷◌, length, drop as past, set, None, codes, refl, inl, inr, arith}
 use Rattle.seating.specs.Calls.{Call, Nothing, Holds}
 use Rattle.seating.specs.Calls.Call.{put}
-use Rattle.seating.specs.Layouts.{Key, Value, Content, Layout, Stash, Candidate}
+use Rattle.seating.specs.Layouts.{Key, Value, Content, Candidate}
 use Rattle.seating.specs.Layouts.Content.{vacant, holding}
-use Rattle.seating.specs.Paths.{Path, CuckooPath, Pathless, Shortest, carry}
-use Rattle.seating.specs.Paths.Path.{last, next}
-use Rattle.seating.specs.Runs.{Ran, fresh, Named, Law}
+use Rattle.seating.specs.Paths.{CuckooPath, Pathless, Shortest, carry}
+use Rattle.seating.specs.Paths.Path.{last}
+use Rattle.seating.specs.Runs.{Ran, fresh, Law}
 use Rattle.seating.specs.Runs.Ran.{begun, putting}
-use Rattle.seating.specs.Slots.{at, Sits, Occupied, value_of, stashed}
-use Rattle.seating.specs.Steps.{Lent, Missing, Stuck, PutDoes}
+use Rattle.seating.specs.Slots.{at, value_of, stashed}
+use Rattle.seating.specs.Steps.{Missing, Stuck, PutDoes}
 use Rattle.seating.specs.Steps.PutAnswer.{seated, full}
 use Rattle.seating.specs.Worked.{worked, worked_calls, worked_slots, worked_lent, worked_back, WorkedStands}
 use Rattle.seating.proofs.Checking.{pathless, seats}
-use Rattle.seating.proofs.Listing.{among_in, in_among}
+use Rattle.seating.proofs.Listing.{among_in}
 use Rattle.seating.proofs.RunLaws.{run_law_lem}
 use Rattle.seating.proofs.Values.{value_none}
 

@@ -1,6 +1,5 @@
 -- The blocking set of a key that cannot be seated, computed: the ascending list of its slots.
 use Rattle.std.specs.Prelude.{ℕ, zero, suc, ◌/◌, Bool, false, ◌&&◌, ◌||◌, List, [], ◌∷◌, filter, nat_eq, nat_le, nat_lt}
-use mathlib.Core.List.{Memᴰ}
 use Rattle.std.specs.List.{range_with_len}
 use Rattle.seating.specs.Layouts.{Key, Content, Layout, bucket_slots, slots, Candidate, Stash}
 use Rattle.seating.specs.Layouts.Content.{vacant, holding}

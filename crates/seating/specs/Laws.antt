@@ -1,7 +1,7 @@
 -- What the definitions of a layout come to.
-use Rattle.std.specs.Prelude.{ℕ, ◌<◌, ◌≤◌, ◌↔◌, List}
+use Rattle.std.specs.Prelude.{ℕ, ◌<◌, ◌≤◌, ◌↔◌}
 use mathlib.Core.List.{Memᴰ}
-use Rattle.seating.specs.Layouts.{Key, Layout, bucket_slots, slots, InBucket, Candidate, Stash, Allowed}
+use Rattle.seating.specs.Layouts.{Key, Layout, slots, InBucket, Candidate, Stash, Allowed}
 
 -- a table's buckets have a slot at least, and keys choose only buckets that exist
 pub record Sized (L : Layout) : Type 0 where

@@ -1,5 +1,5 @@
 -- What slots hold: who sits where, the finite map read off them, how many keys moved, and how many are in the stash.
-use Rattle.std.specs.Prelude.{◌≡◌, ℕ, suc, Bool, cond, not, ◌&&◌, List, [], ◌∷◌, length, take, drop, is_some, Some, None, count_by, Option, ◌==◌, slice_index_or}
+use Rattle.std.specs.Prelude.{◌≡◌, ℕ, suc, cond, not, ◌&&◌, List, [], ◌∷◌, length, take, drop, is_some, Some, None, count_by, Option, ◌==◌, slice_index_or}
 use Rattle.std.specs.Str.{bytes_eq}
 use Rattle.seating.specs.Layouts.{Key, Value, Content, Layout, bucket_slots}
 use Rattle.seating.specs.Layouts.Content.{vacant, holding}

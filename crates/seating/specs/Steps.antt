@@ -1,6 +1,5 @@
 -- What making, put and drop do: by the answer, the slots and the lent memory before and after.
 use Rattle.std.specs.Prelude.{◌≡◌, ℕ, ◌+◌, ◌*◌, ◌<◌, ◌≤◌, ◌⊎◌, List, ◌++◌, length, drop as past, replicate, slice_set}
-use mathlib.Core.List.{Memᴰ}
 use Rattle.seating.specs.Blocking.{blocking}
 use Rattle.seating.specs.Layouts.{Key, Value, Content, Layout, slots, Stash, Allowed}
 use Rattle.seating.specs.Layouts.Content.{vacant, holding}

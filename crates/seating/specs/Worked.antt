@@ -8,7 +8,7 @@ use Rattle.seating.specs.Blocking.{blocking}
 use Rattle.seating.specs.Calls.{Call, Nothing, With, Holds}
 use Rattle.seating.specs.Calls.Call.{put}
 use Rattle.seating.specs.Layouts.{Key, Value, Content, Layout}
-use Rattle.seating.specs.Layouts.Content.{vacant, holding}
+use Rattle.seating.specs.Layouts.Content.{holding}
 use Rattle.seating.specs.Runs.{Ran, fresh, Named}
 use Rattle.seating.specs.Steps.{Lent, PutDoes}
 use Rattle.seating.specs.Steps.PutAnswer.{full}

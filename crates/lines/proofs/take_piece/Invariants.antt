@@ -1,4 +1,4 @@
-use Rattle.std.proofs.Common.{◌≡◌, ℕ, ◌<◌, List, ◌++◌, length, take}
+use Rattle.std.proofs.Common.{◌≡◌, ℕ, List, ◌++◌, take}
 use Rattle.lines.specs.Lines.{line_text}
 use Rattle.lines.specs.Said.{said}
 use Rattle.lines.proofs.Feeds.{Clear}

@@ -3,7 +3,7 @@ ghost use Rattle.std.specs.Prelude.{◌≡◌};
 ghost use Rattle.places.specs.Made.{MadeUnder};
 ghost use Rattle.places.specs.Rules.{DigitSize};
 ghost use Rattle.unit_tests.specs.ByBytes.{byte_choices};
-ghost use Rattle.std.proofs.Common.{rules, arith};
+ghost use Rattle.std.proofs.Common.{rules};
 
 use crate::by_bytes::ByBytes;
 use keys::{Kind, Refusal};
@@ -28,9 +28,9 @@ impl<K: Kind> Rule<K> for ByBytes {
 
     ghost places = { λ b k. byte_choices b.buckets k };
 
-    ghost sized = { first_of (Prim.search rules, Prim.grind (arith, Self.row.coded.inj)) };
+    ghost sized = { Prim.search rules };
 
-    ghost placed = { first_of (Prim.search rules, Prim.grind (arith, Self.row.coded.inj)) };
+    ghost placed = { Prim.search rules };
 
     fn buckets(&self) -> usize {
         self.buckets

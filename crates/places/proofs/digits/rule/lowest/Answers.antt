@@ -1,4 +1,3 @@
-use Rattle.std.proofs.Common.{◌≡◌}
 use Rattle.places.proofs.Quotients.{digit_zero, digit_one, digit_two}
 use Rattle.places.proofs.digits.rule.lowest.Goals as goal
 

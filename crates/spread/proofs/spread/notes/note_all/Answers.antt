@@ -1,4 +1,4 @@
-use Rattle.std.proofs.Common.{◌≡◌, ℕ, ◌+◌, ◌<◌, List, length, take, set, sym, ap, ◌∙◌, subst, arith}
+use Rattle.std.proofs.Common.{ℕ, ◌+◌, ◌<◌, List, length, take, set, sym, ap, ◌∙◌, subst, arith}
 use Rattle.places.specs.Choices.{listed}
 use Rattle.spread.specs.Spreads.{Noted}
 use Rattle.spread.proofs.Spreads.{noted_more, noted_again, noted_past}
