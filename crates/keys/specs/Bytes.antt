@@ -1,13 +1,13 @@
 -- Bytes of keys.
 use Rattle.std.specs.Prelude.{ℕ, ◌/◌, ◌%◌, ◌^◌, ◌<◌, ◌≤◌, List, ◌∷◌, length}
-use Rattle.std.specs.List.{AllByRecursion as All}
+use Rattle.std.specs.List.{AllByRecursion}
 use Rattle.seating.specs.Layouts.{Key}
 
 -- a key has 1 to 15 bytes
 pub record KeySized (k : Key) : Type 0 where
   pub some : 1 ≤ length k
   pub few : length k ≤ 15
-  pub octets : All (λ b. b < 256) k
+  pub octets : AllByRecursion (λ b. b < 256) k
 
 -- a number of 16 bits, most significant byte first
 abbrev pub two : ℕ → List ℕ → List ℕ

@@ -1,6 +1,6 @@
 -- Place rules: what every rule shows, and the choices of our own, from a word h and the number n of buckets.
 use Rattle.std.specs.Prelude.{◌≡◌, ℕ, ◌+◌, ◌/◌, ◌%◌, ◌^◌, ◌<◌, ◌≤◌, List, [], ◌∷◌, length, bit_xor}
-use Rattle.std.specs.List.{AllByRecursion as All}
+use Rattle.std.specs.List.{AllByRecursion}
 use Rattle.places.specs.Words.{fnv}
 
 -- n buckets, and d choices for each key
@@ -13,7 +13,7 @@ pub record RuleSized (n d : ℕ) : Type 0 where
 -- d choices, each a bucket
 pub record Placed (n d : ℕ) (bs : List ℕ) : Type 0 where
   pub count : length bs ≡ d
-  pub inside : All (λ b. b < n) bs
+  pub inside : AllByRecursion (λ b. b < n) bs
 
 -- `two`: a bucket of the lower half, and one of the upper half
 abbrev pub two_choices : ℕ → ℕ → List ℕ

@@ -1,6 +1,6 @@
 -- Worked examples of words and choices, all with seed 0: one table.
 use Rattle.std.specs.Prelude.{◌≡◌, ℕ, List, [], ◌∷◌, codes}
-use Rattle.std.specs.List.{AllByRecursion as All}
+use Rattle.std.specs.List.{AllByRecursion}
 use Rattle.seating.specs.Layouts.{Key}
 use Rattle.rules.specs.Builtins.{name_choices}
 use Rattle.places.specs.Words.{fnv}
@@ -33,4 +33,4 @@ examples =
     ∷ []
 
 abbrev pub ExamplesHold : Type 0
-ExamplesHold = All Holds examples
+ExamplesHold = AllByRecursion Holds examples

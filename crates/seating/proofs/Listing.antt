@@ -1,7 +1,7 @@
 -- Numbers that pass a test, listed in ascending order, and tests over a list.
 use Rattle.std.proofs.Common.{◌≡◌, ℕ, zero, suc, ◌+◌, ◌<◌, ◌≤◌, Bool, true, false, eqb, List, [], ◌∷◌, filter, sym, refl, inl, inr, arith}
 use mathlib.Core.List.{Memᴰ}
-use Rattle.std.specs.List.{range_with_len, AllByRecursion as All}
+use Rattle.std.specs.List.{range_with_len, AllByRecursion}
 use Rattle.std.proofs.lemmas.Bool.{cases_eq, cases_Bool, or_cases, or_left, or_right, false≢true, eqb-true, eq-eqb}
 use Rattle.seating.specs.Blocking.{some_of}
 use Rattle.seating.specs.Theorems.{Ascending}
@@ -43,7 +43,7 @@ in_listed P a (suc m) i l u p = elim (cases_eq i a) [
       elim (cases_Bool (P a)) [ inl e ↦ rw e (mathlib.Core.List.Memᴰ.tail t) | inr e ↦ rw e t ])
 ]
 
-all_members : (P : ℕ → Type 0) (cs : List ℕ) → ((c : ℕ) → Memᴰ c cs → P c) → All P cs
+all_members : (P : ℕ → Type 0) (cs : List ℕ) → ((c : ℕ) → Memᴰ c cs → P c) → AllByRecursion P cs
 all_members P [] h = tt
 all_members P (c ∷ cs) h = (h c (mathlib.Core.List.Memᴰ.head refl), all_members P cs (λ d m. h d (mathlib.Core.List.Memᴰ.tail m)))
 
@@ -65,7 +65,7 @@ agree true b f g = sym (f refl)
 agree false true f g = g refl
 agree false false f g = refl
 
-all_in : (P : ℕ → Type 0) (cs : List ℕ) → All P cs → (c : ℕ) → Memᴰ c cs → P c
+all_in : (P : ℕ → Type 0) (cs : List ℕ) → AllByRecursion P cs → (c : ℕ) → Memᴰ c cs → P c
 all_in P [] h c m = absurd (mathlib.Core.List.Memᴰ.not-nil m)
 all_in P (d ∷ cs) h c m = elim (mathlib.Core.List.Memᴰ.cases_cons m) [ inl e ↦ rw e h.0 | inr q ↦ all_in P cs h.1 c q ]
 

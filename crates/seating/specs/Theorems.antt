@@ -1,7 +1,7 @@
 -- What is proved of seating: each statement is the contract of a function of this crate.
 use Rattle.std.specs.Prelude.{◌≡◌, ℕ, ◌<◌, ◌≤◌, Bool, true, ◌≢◌, ◌⊎◌, ◌↔◌, List, [], ◌∷◌, length, take, drop as past, slice_index_or}
 use mathlib.Core.List.{Memᴰ}
-use Rattle.std.specs.List.{AllByRecursion as All}
+use Rattle.std.specs.List.{AllByRecursion}
 use Rattle.seating.specs.Assignments.{Seats, Seatable, Unseatable, stashed_by}
 use Rattle.seating.specs.Blocking.{blocking, Blocks}
 use Rattle.seating.specs.Layouts.{Key, Value, Content, Layout, slots, Stash, Allowed}
@@ -27,7 +27,7 @@ Pigeonhole =
 
 abbrev pub Ascending : List ℕ → Type 0
 Ascending [] = Unit {0}
-Ascending (c ∷ cs) = All (λ d. c < d) cs × Ascending cs
+Ascending (c ∷ cs) = AllByRecursion (λ d. c < d) cs × Ascending cs
 
 -- the blocking set of k is the least set with the candidates of k, the stash, and the candidates of each key in it
 pub record LeastBlocking (L : Layout) (xs : List Content) (k : Key) : Type 0 where

@@ -1,7 +1,7 @@
 -- A worked run: six names of one letter, four buckets of one slot, one stash slot. Five names are seated, and `d` is refused.
 use Rattle.std.specs.Prelude.{◌≡◌, ℕ, ◌-◌, not, List, [], ◌∷◌, take, replicate, codes, filter, slice_index, slice_index_or}
 use mathlib.Core.List.{Memᴰ}
-use Rattle.std.specs.List.{AllByRecursion as All}
+use Rattle.std.specs.List.{AllByRecursion}
 use Rattle.std.specs.Str.{bytes_eq}
 use Rattle.seating.specs.Assignments.{Seats, Unseatable}
 use Rattle.seating.specs.Blocking.{blocking}
@@ -72,5 +72,5 @@ pub record WorkedStands : Type 0 where
   pub refused : PutDoes worked worked_slots (codes "d") 4 worked_lent (full 5) worked_slots worked_back
   pub slots : blocking worked worked_slots (codes "d") ≡ 0 ∷ 1 ∷ 2 ∷ 3 ∷ 4 ∷ []
   pub unseatable : Unseatable worked (With (Holds worked Nothing worked_calls) (codes "d"))
-  pub named : All (Named worked_slots (codes "d") (take 5 worked_back.list)) letters
-  pub helped : All Helped worked_help
+  pub named : AllByRecursion (Named worked_slots (codes "d") (take 5 worked_back.list)) letters
+  pub helped : AllByRecursion Helped worked_help

@@ -2,7 +2,7 @@
 use Rattle.std.proofs.Common.{◌≡◌, ℕ, zero, suc, ◌-◌, ◌<◌, ◌≤◌, Bool, true, false, List, [], ◌∷◌, get_or, replicate, MatchBool, refl, inl, inr}
 use mathlib.Core.List.Memᴰ
 use mathlib.Core.List.{Memᴰ}
-use Rattle.std.specs.List.{AllByRecursion as All}
+use Rattle.std.specs.List.{AllByRecursion}
 use Rattle.places.specs.Rules.{Placed}
 use Rattle.search.proofs.Spreading.{spread_as, struck_as}
 use Rattle.seating.specs.Laws.{Sized}
@@ -15,7 +15,7 @@ pub went_as : {T V : ℕ → ℕ → Type 0} (xs : List Content) (f g : Frontier
 went_as xs f g true into onto w = struck_as xs (view f) (view g) ((view g).tail - 1) into w
 went_as xs f g false into onto w = spread_as xs (view f) (view g) into onto w
 
-all_in : (P : ℕ → Type 0) (bs : List ℕ) → All P bs → (b : ℕ) → Memᴰ b bs → P b
+all_in : (P : ℕ → Type 0) (bs : List ℕ) → AllByRecursion P bs → (b : ℕ) → Memᴰ b bs → P b
 all_in P [] h b m = absurd (Memᴰ.not-nil m)
 all_in P (c ∷ bs) h b m = elim (Memᴰ.cases_cons m) [ inl e ↦ rw e h.0 | inr q ↦ all_in P bs h.1 b q ]
 

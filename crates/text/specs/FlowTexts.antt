@@ -3,7 +3,7 @@ use Rattle.std.proofs.Common.{arith, rules, sym, ap, ◌∙◌, append_assoc, dr
 use Rattle.std.specs.Prelude.{◌≡◌, ℕ, zero, suc, ◌+◌, ◌*◌, ◌/◌, ◌%◌, ◌<◌, false, List, [], ◌∷◌, ◌++◌, length, drop, Some, decimal, slice_index, refl}
 use Rattle.std.proofs.ByRecursion.{All-append}
 use Rattle.std.proofs.lemmas.List.{drop_all}
-use Rattle.std.specs.List.{AllByRecursion as All}
+use Rattle.std.specs.List.{AllByRecursion}
 use Rattle.keys.specs.Bytes.{two}
 use Rattle.flows.specs.Flows.{flow_bytes}
 use Rattle.flows.specs.declared.flow.Flow.{Flow}
@@ -15,7 +15,7 @@ use Rattle.numerals.proofs.Cuts.{Says, some_says, then_says, below_back, part_ba
 
 -- each is a byte
 abbrev Octets : List ℕ → Type 0
-Octets k = All (λ b. b < 256) k
+Octets k = AllByRecursion (λ b. b < 256) k
 
 octet_at : (k : List ℕ) → Octets k → (i : ℕ) → slice_index k i < 256
 octet_at [] h i = omega arith

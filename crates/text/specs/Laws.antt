@@ -1,13 +1,13 @@
 -- What the texts of flows come to.
 use Rattle.std.specs.Prelude.{◌≡◌, ℕ, ◌<◌, List, length, Some}
-use Rattle.std.specs.List.{AllByRecursion as All}
+use Rattle.std.specs.List.{AllByRecursion}
 use Rattle.seating.specs.Layouts.{Key}
 use Rattle.flow_text.specs.FlowText.{flow_as_text, flow_from}
 
 -- a flow's key has 13 bytes
 pub record FlowKey (k : Key) : Type 0 where
   pub bytes : length k ≡ 13
-  pub octets : All (λ b. b < 256) k
+  pub octets : AllByRecursion (λ b. b < 256) k
 
 -- a flow that is written and read is that flow
 abbrev pub FlowsReadBack : Type 0
