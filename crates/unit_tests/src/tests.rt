@@ -1,3 +1,3 @@
 // Examples, run.
-mod places;
+mod examples;
 mod texts;
