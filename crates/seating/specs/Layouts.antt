@@ -34,10 +34,6 @@ slots L = bucket_slots L + L.stash
 abbrev pub InBucket : Layout → ℕ → ℕ → Type 0
 InBucket L b i = (b * L.width ≤ i) × (i < b * L.width + L.width)
 
--- slot i takes part in the seating of keys: all slots of the table do
-abbrev pub InPlay : Layout → ℕ → Type 0
-InPlay L i = i < slots L
-
 -- slot i is in a bucket that k chooses
 abbrev pub Candidate : Layout → Key → ℕ → Type 0
 Candidate L k i = (i < bucket_slots L) × Memᴰ (i / L.width) (L.choices k)

@@ -1,9 +1,8 @@
 -- Looks at some slots and then at others.
-use Rattle.std.proofs.Common.{◌≡◌, ℕ, zero, suc, ◌+◌, ◌-◌, ◌<◌, ◌≤◌, Bool, true, false, ◌⊎◌, List, [], ◌∷◌, ◌++◌, length, get_or, take, drop, Some, None, Decides, Option, sym, refl, ap, ◌∙◌, inl, inr, append_assoc, append-nil, arith, take-append-drop, MatchOption}
+use Rattle.std.proofs.Common.{◌≡◌, ℕ, zero, suc, ◌+◌, ◌-◌, ◌<◌, ◌≤◌, Bool, false, List, [], ◌∷◌, ◌++◌, length, get_or, take, drop, Some, None, Decides, Option, sym, refl, ap, ◌∙◌, inl, inr, append_assoc, append-nil, arith, take-append-drop, MatchOption}
 use mathlib.Core.List.Memᴰ
 use mathlib.Core.List.{Memᴰ}
 use Rattle.std.specs.List.{range_with_len, flat_map}
-use Rattle.std.specs.Option.{option_map}
 use Rattle.std.proofs.lemmas.List.{take_more}
 use Rattle.std.proofs.lemmas.Bool.{both_ways}
 use Rattle.places.specs.Choices.{listed}
@@ -12,7 +11,7 @@ use Rattle.places.specs.declared.choices.Choices.TheVariants.{One, Two, Three}
 use Rattle.seating.specs.Layouts.{Key, Value, Content}
 use Rattle.seating.specs.Layouts.Content.{holding}
 use Rattle.seating.specs.Lookups.{looked, look_in}
-use Rattle.seating.specs.Slots.{at, Sits, value_at}
+use Rattle.seating.specs.Slots.{at, value_at}
 use Rattle.seating.proofs.Looking.{in_front, in_back, looks_few as few}
 use Rattle.seating.proofs.Values.{has_or_not}
 use Rattle.table.specs.Looks.{Looks}

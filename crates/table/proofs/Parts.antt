@@ -6,7 +6,7 @@ use Rattle.std.specs.List.{AllByRecursion}
 use Rattle.places.specs.Rules.{Placed}
 use Rattle.search.proofs.Spreading.{spread_as, struck_as}
 use Rattle.seating.specs.Laws.{Sized}
-use Rattle.seating.specs.Layouts.{Key, Content, Layout}
+use Rattle.seating.specs.Layouts.{Key, Content}
 use Rattle.table.specs.Views.{view, Went, layout_of}
 use Rattle.table.specs.declared.frontier.Frontier.{Frontier}
 

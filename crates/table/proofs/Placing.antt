@@ -1,12 +1,13 @@
 -- What a lookup tells of the slots that a key may take, and what a put makes of its answer.
-use Rattle.std.proofs.Common.{◌≡◌, ℕ, ◌*◌, ◌<◌, ◌≤◌, ◌⊎◌, List, length, set, Some, None, Ok, Err, Option, Result, sym, refl, ap, ◌∙◌, inl, inr, arith, MatchOption}
+use Rattle.std.proofs.Common.{◌≡◌, ℕ, ◌*◌, ◌<◌, ◌≤◌, ◌⊎◌, List, length, set, Some, None, Ok, Err, Option, Result, subst, refl, ap, inl, inr, MatchOption}
+use mathlib.Core.List.{Memᴰ}
 use Rattle.keys.specs.declared.refusal.Refusal.{Refusal}
 use Rattle.keys.specs.declared.refusal.Refusal.TheVariants.{Size, BankShort, LentShort, Full, NoSlot, NotHeld, NameLength, BadLine, OutOfTurn}
 use Rattle.seating.specs.Laws.{Sized}
 use Rattle.seating.specs.Layouts.{Key, Value, Content, Layout, slots}
 use Rattle.seating.specs.Layouts.Content.{vacant, holding}
 use Rattle.seating.specs.Lookups.{look_order}
-use Rattle.seating.specs.Slots.{at, stashed}
+use Rattle.seating.specs.Slots.{at, Sits, stashed}
 use Rattle.seating.specs.Steps.{Lent, Roomy, blank, Found, Missing, Rested, Refilled}
 use Rattle.seating.specs.Steps.PutAnswer.{seated, renewed, too_short, full}
 use Rattle.seating.specs.Steps.DropAnswer.{dropped, too_short as lentShort, not_held}
@@ -21,13 +22,19 @@ use Rattle.table.specs.declared.looks.Hit.{Hit}
 use Rattle.table.specs.declared.looks.Look.{Look}
 use Rattle.table.proofs.Promising.{put_promise, drop_promise}
 
+-- what a lookup says of what it hit
+abbrev Told : List Content → Key → List ℕ → Option Hit → Type 0
+Told xs k is o = MatchOption o ((i : ℕ) → Memᴰ i is → Sits xs k i → ⊥) (λ h. Memᴰ h.slot is × (at xs h.slot ≡ holding k h.value))
+
 pub look_found : (L : Layout) → Sized L → (xs : List Content) (k : Key) (r : Look) (h : Hit) → Looks xs k (look_order L k) r → r.hit ≡ Some h → Found L xs k h.slot
 look_found L sized xs k r h l e =
-    let c : MatchOption (Some h) _ _ = rw e at l.slot in (order_allowed L sized k h.slot c.0, (h.value, c.1))
+    let c : Told xs k (look_order L k) (Some h) = subst (Told xs k (look_order L k)) e l.slot in
+    (order_allowed L sized k h.slot c.0, (h.value, c.1))
 
 pub look_missing : (L : Layout) (xs : List Content) (k : Key) (r : Look) → Looks xs k (look_order L k) r → r.hit ≡ None → Missing L xs k
 look_missing L xs k r l e i f =
-    let c : MatchOption None _ _ = rw e at l.slot in c i (order_has L k i f.0) f.1
+    let c : Told xs k (look_order L k) None = subst (Told xs k (look_order L k)) e l.slot in
+    c i (order_has L k i f.0) f.1
 
 module _ (L : Layout) (xs : List Content) (k : Key) (v : Value) (work was : List ℕ) (room : Roomy L (lent work was)) where
   seat_put : (r : Result Seated Refusal) (ys : List Content) (is : List ℕ) → Missing L xs k → SeatDoes L xs k v was r ys is

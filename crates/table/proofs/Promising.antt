@@ -1,22 +1,20 @@
 -- From what a call does to a bank to all that it promises.
-use Rattle.std.proofs.Common.{◌≡◌, ℕ, ◌<◌, ◌≤◌, min, Bool, true, false, cond, ltb, ◌⊎◌, List, [], ◌∷◌, ◌++◌, length, get_or, take, Ok, Err, Option, Result, sym, refl, ap, ◌∙◌, inl, inr, arith, length-take, get_or-take}
+use Rattle.std.proofs.Common.{◌≡◌, ℕ, ◌<◌, ◌≤◌, min, cond, ltb, List, [], ◌∷◌, length, Ok, Err, Option, refl, ap, ◌∙◌, arith, length-take, get_or-take}
 use Rattle.std.specs.Option.{option_map}
 use Rattle.std.proofs.lemmas.Bool.{le-ltb}
 use Rattle.std.proofs.lemmas.Bool.Decides.{nat_tests}
 use Rattle.banks.specs.Slots.{read_of}
-use Rattle.keys.specs.declared.refusal.Refusal.{Refusal}
-use Rattle.keys.specs.declared.refusal.Refusal.TheVariants.{NoSlot, LentShort, Full}
-use Rattle.seating.specs.Calls.{Call, Nothing, Holds}
+use Rattle.keys.specs.declared.refusal.Refusal.TheVariants.{NoSlot}
 use Rattle.seating.specs.Calls.Call.{drop}
-use Rattle.seating.specs.Fronts.{front, rest}
+use Rattle.seating.specs.Fronts.{front}
 use Rattle.seating.specs.Laws.{Sized}
 use Rattle.seating.specs.Layouts.{Key, Value, Content, Layout, slots}
 use Rattle.seating.specs.Layouts.Content.{vacant}
-use Rattle.seating.specs.Lookups.{look_order, look_in, lookup}
+use Rattle.seating.specs.Lookups.{look_order, lookup}
 use Rattle.seating.specs.Runs.{Ran, fresh}
 use Rattle.seating.specs.Runs.Ran.{begun, dropping}
 use Rattle.seating.specs.Slots.{at, value_of}
-use Rattle.seating.specs.Steps.{Lent, Roomy, blank, MakeDoes, PutAnswer, PutDoes, DropAnswer, DropDoes}
+use Rattle.seating.specs.Steps.{Lent, MakeDoes, PutAnswer, PutDoes, DropAnswer, DropDoes}
 use Rattle.seating.specs.Steps.MakeAnswer.{made}
 use Rattle.seating.specs.Steps.PutAnswer.{seated, renewed, too_short, full}
 use Rattle.seating.specs.Steps.DropAnswer.{dropped, too_short as lentShort, not_held}

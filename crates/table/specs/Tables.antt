@@ -1,15 +1,14 @@
 -- What the calls of a table promise.
-use Rattle.std.specs.Prelude.{◌≡◌, ℕ, ◌+◌, ◌*◌, ◌≤◌, List, [], length, Ok, Err, Option, Result}
+use Rattle.std.specs.Prelude.{◌≡◌, ℕ, List, [], Ok, Err, Result}
 use Rattle.std.specs.Borrow.{GName}
 use Rattle.keys.specs.declared.refusal.Refusal.{Refusal}
 use Rattle.keys.specs.declared.refusal.Refusal.TheVariants.{Size, BankShort, LentShort, Full, NoSlot, NotHeld, NameLength, BadLine, OutOfTurn}
-use Rattle.seating.specs.Calls.{Call, Nothing}
-use Rattle.seating.specs.Fronts.{front, rest}
+use Rattle.seating.specs.Fronts.{front}
 use Rattle.seating.specs.Layouts.{Key, Value, Content, Layout}
 use Rattle.seating.specs.Lookups.{lookup}
 use Rattle.seating.specs.Runs.{Ran, fresh}
 use Rattle.seating.specs.Slots.{value_of}
-use Rattle.seating.specs.Steps.{Lent, MakeAnswer, MakeDoes}
+use Rattle.seating.specs.Steps.{Lent, MakeDoes}
 use Rattle.seating.specs.Steps.MakeAnswer.{made, bad_size, bank_short}
 use Rattle.seating.specs.Tables.{Sound}
 use Rattle.table.specs.Promises.{PutPromise, put_done, DropPromise, drop_done}
@@ -17,16 +16,19 @@ use Rattle.table.specs.Views.{layout_of}
 use Rattle.table.specs.declared.Got.{Got}
 use Rattle.table.specs.declared.Out.{Out}
 use Rattle.table.specs.declared.Seated.{Seated}
+use Rattle.banks.specs.declared.bank.Bank as Banks
+use Rattle.keys.specs.declared.kind.Kind as Kinds
+use Rattle.places.specs.declared.rule.Rule as Rules
 use Rattle.table.specs.declared.Table.{Table}
 use Rattle.table.specs.declared.Unmade.{Unmade}
 
 -- the layout of a table
-abbrev pub layout : {B R K Q : Type 0} → (R → ℕ) → (R → Key → List ℕ) → Table B R K Q → Layout
+abbrev pub layout : {B R K Q : Type 0} {gb : Banks.Ghosts B K Q} {gk : Kinds.Ghosts K Q} {gr : Rules.Ghosts R K Q} → (R → ℕ) → (R → Key → List ℕ) → Table B R K Q gb gk gr → Layout
 layout count places t = layout_of count places t.rule t.width t.stash
 
 -- a table made: over the emptied bank, with the rule and the sizes as asked
-pub record Made {B R K Q : Type 0} (slots : B → List Content) (place : B → List GName) (count : R → ℕ) (places : R → Key → List ℕ)
-    (b : B) (r : R) (w s : ℕ) (t : Table B R K Q) : Type 0 where
+pub record Made {B R K Q : Type 0} {gb : Banks.Ghosts B K Q} {gk : Kinds.Ghosts K Q} {gr : Rules.Ghosts R K Q} (slots : B → List Content) (place : B → List GName) (count : R → ℕ) (places : R → Key → List ℕ)
+    (b : B) (r : R) (w s : ℕ) (t : Table B R K Q gb gk gr) : Type 0 where
   pub rule : t.rule ≡ r
   pub width : t.width ≡ w
   pub stash : t.stash ≡ s
@@ -48,33 +50,33 @@ MakeRefused L xs BadLine = ⊥
 MakeRefused L xs OutOfTurn = ⊥
 
 -- making: a table, or why there is none, the bank and the rule given back as they were
-abbrev pub MakeTells : {B R K Q : Type 0} → (B → List Content) → (B → List GName) → (R → ℕ) → (R → Key → List ℕ)
-    → B → R → ℕ → ℕ → Result (Table B R K Q) (Unmade B R) → Type 0
+abbrev pub MakeTells : {B R K Q : Type 0} {gb : Banks.Ghosts B K Q} {gk : Kinds.Ghosts K Q} {gr : Rules.Ghosts R K Q} → (B → List Content) → (B → List GName) → (R → ℕ) → (R → Key → List ℕ)
+    → B → R → ℕ → ℕ → Result (Table B R K Q gb gk gr) (Unmade B R) → Type 0
 MakeTells slots place count places bank rule w s (Ok t) = Made slots place count places bank rule w s t
 MakeTells slots place count places bank rule w s (Err u) =
     (u.bank ≡ bank) × (u.rule ≡ rule) × MakeRefused (layout_of count places rule w s) (slots bank) u.refusal
 
 -- a get answers as a lookup does, and in sound slots as the map
-pub record GetTells {B R K Q : Type 0} (slots : B → List Content) (count : R → ℕ) (places : R → Key → List ℕ) (t : Table B R K Q) (k : Key) (g : Got) : Type 0 where
+pub record GetTells {B R K Q : Type 0} {gb : Banks.Ghosts B K Q} {gk : Kinds.Ghosts K Q} {gr : Rules.Ghosts R K Q} (slots : B → List Content) (count : R → ℕ) (places : R → Key → List ℕ) (t : Table B R K Q gb gk gr) (k : Key) (g : Got) : Type 0 where
   pub answer : (g.value, g.looks) ≡ lookup (layout count places t) (front (layout count places t) (slots t.bank)) k
   pub map : Sound (layout count places t) (front (layout count places t) (slots t.bank)) → g.value ≡ value_of (front (layout count places t) (slots t.bank)) k
 
 -- only the bank's slots change
-pub record Keeps {B R K Q : Type 0} (place : B → List GName) (t u : Table B R K Q) : Type 0 where
+pub record Keeps {B R K Q : Type 0} {gb : Banks.Ghosts B K Q} {gk : Kinds.Ghosts K Q} {gr : Rules.Ghosts R K Q} (place : B → List GName) (t u : Table B R K Q gb gk gr) : Type 0 where
   pub rule : u.rule ≡ t.rule
   pub width : u.width ≡ t.width
   pub stash : u.stash ≡ t.stash
   pub stays : place u.bank ≡ place t.bank
 
 -- a put, from the table t with the words was to the table u with the words is
-pub record PutTells {B R K Q : Type 0} (slots : B → List Content) (place : B → List GName) (count : R → ℕ) (places : R → Key → List ℕ)
-    (t : Table B R K Q) (k : Key) (v : Value) (was : Lent) (r : Result Seated Refusal) (u : Table B R K Q) (is : Lent) : Type 0 where
+pub record PutTells {B R K Q : Type 0} {gb : Banks.Ghosts B K Q} {gk : Kinds.Ghosts K Q} {gr : Rules.Ghosts R K Q} (slots : B → List Content) (place : B → List GName) (count : R → ℕ) (places : R → Key → List ℕ)
+    (t : Table B R K Q gb gk gr) (k : Key) (v : Value) (was : Lent) (r : Result Seated Refusal) (u : Table B R K Q gb gk gr) (is : Lent) : Type 0 where
   pub keeps : Keeps place t u
   pub done : put_done (λ a. PutPromise (layout count places t) (slots t.bank) k v was a (slots u.bank) is) r
 
 -- a drop, from the table t with the work area was to the table u with the work area is
-pub record DropTells {B R K Q : Type 0} (slots : B → List Content) (place : B → List GName) (count : R → ℕ) (places : R → Key → List ℕ)
-    (t : Table B R K Q) (k : Key) (was : List ℕ) (r : Result Out Refusal) (u : Table B R K Q) (is : List ℕ) : Type 0 where
+pub record DropTells {B R K Q : Type 0} {gb : Banks.Ghosts B K Q} {gk : Kinds.Ghosts K Q} {gr : Rules.Ghosts R K Q} (slots : B → List Content) (place : B → List GName) (count : R → ℕ) (places : R → Key → List ℕ)
+    (t : Table B R K Q gb gk gr) (k : Key) (was : List ℕ) (r : Result Out Refusal) (u : Table B R K Q gb gk gr) (is : List ℕ) : Type 0 where
   pub keeps : Keeps place t u
   pub done : drop_done (λ a. DropPromise (layout count places t) (slots t.bank) k was a (slots u.bank) is) r
 

@@ -41,7 +41,7 @@ impl<B: Bank, R: Rule<B::Key>> Table<B, R> {
     }
 
     // Drops the key. The work area comes back blank, but if it is too short.
-    pub fn drop(&mut self, key: &B::Key, work: &mut [u32]) -> Result<Out, Refusal>
+    pub(crate) fn drop(&mut self, key: &B::Key, work: &mut [u32]) -> Result<Out, Refusal>
         ensures { DropTells B.Bank.slots B.Bank.place R.Rule.count R.Rule.places self.old (B.Key.Kind.bytes key.now) work.old result self.new work.new }
     {
         let first = self.rule.buckets() * self.width;

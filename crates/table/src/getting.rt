@@ -15,7 +15,7 @@ use places::Rule;
 impl<B: Bank, R: Rule<B::Key>> Table<B, R> {
     // The value of the key, if it is held, and how many slots were looked at: choice by choice, a
     // repeated choice again, then the stash.
-    pub fn get(&self, key: &B::Key) -> Got
+    pub(crate) fn get(&self, key: &B::Key) -> Got
         ensures { GetTells B.Bank.slots R.Rule.count R.Rule.places self.now (B.Key.Kind.bytes key.now) result }
     {
         let first = self.rule.buckets() * self.width;
@@ -39,7 +39,7 @@ impl<B: Bank, R: Rule<B::Key>> Table<B, R> {
     }
 
     // What slot i of the table holds.
-    pub fn slot(&self, i: usize) -> Result<Option<Entry<B::Key>>, Refusal>
+    pub(crate) fn slot(&self, i: usize) -> Result<Option<Entry<B::Key>>, Refusal>
         ensures { result_map_both (content_of B.Key.Kind.bytes) (λ e. e) result ≡ read_of (front (layout R.Rule.count R.Rule.places self.now) (B.Bank.slots self.now.bank)) i }
     {
         if i >= self.rule.buckets() * self.width + self.stash {

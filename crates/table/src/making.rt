@@ -11,7 +11,12 @@ use places::Rule;
 impl<B: Bank, R: Rule<B::Key>> Table<B, R> {
     // A table over the first slots of the bank, all of them emptied. The sizes are looked at before the
     // bank's length.
-    pub fn new(bank: B, rule: R, width: usize, stash: usize) -> Result<Table<B, R>, Unmade<B, R>>
+    pub(crate) fn new(
+        bank: B,
+        rule: R,
+        width: usize,
+        stash: usize,
+    ) -> Result<Table<B, R>, Unmade<B, R>>
         ensures { MakeTells B.Bank.slots B.Bank.place R.Rule.count R.Rule.places bank rule width stash result }
     {
         let mut bank = bank;
@@ -40,7 +45,7 @@ impl<B: Bank, R: Rule<B::Key>> Table<B, R> {
     }
 
     // The bank and the rule, given back.
-    pub fn into_parts(self) -> (B, R)
+    pub(crate) fn into_parts(self) -> (B, R)
         ensures { (result.0 ≡ self.bank) × (result.1 ≡ self.rule) }
     {
         let Table {

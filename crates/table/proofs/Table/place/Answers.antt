@@ -9,7 +9,7 @@ returns-in-Some g c =
     let t = c.args.self.now in
     let L = layout g.R.Rule.count g.R.Rule.places t in
     let xs = g.B.Bank.slots t.bank in
-    let k = g.Key.Kind.bytes c.args.entry.key in
+    let k = g.B.Key.Kind.bytes c.args.entry.key in
     let sized = sized_of g.R.Rule.count g.R.Rule.degree g.R.Rule.places t.rule t.width t.stash g.met.R.Rule.placed t.some in
     record {
       keeps = record { rule = refl; width = refl; stash = refl; stays = c.write.ensures.stays };
@@ -21,5 +21,5 @@ returns-in-None g c =
     let t = c.args.self.now in
     let L = layout g.R.Rule.count g.R.Rule.places t in
     let xs = g.B.Bank.slots t.bank in
-    let k = g.Key.Kind.bytes c.args.entry.key in
+    let k = g.B.Key.Kind.bytes c.args.entry.key in
     record { keeps = c.seat.ensures.keeps; places = inl (look_missing L xs k _ c.look_up-look.ensures c.in-None.is, c.seat.ensures.seats) }

@@ -1,10 +1,33 @@
-use Rattle.std.proofs.Common.{refl, arith}
-use Rattle.table.specs.Tables.{layout}
+use Rattle.std.proofs.Common.{◌≡◌, ℕ, List, subst, sym, refl, inl, inr, arith, rules}
+use Rattle.seating.specs.Steps.{blank}
+use Rattle.table.specs.Promises.{PutPromise, put_done}
+use Rattle.table.specs.Tables.{layout, lent}
 use Rattle.table.proofs.Placing.{place_put, short_put}
 use Rattle.table.proofs.Table.put.Goals as goal
 
 pub returns-then-work-n : goal.returns-then-work-n
-returns-then-work-n g c = ?
+returns-then-work-n g c =
+    let t = c.args.self.now in
+    let e = rw c.buckets.ensures at c.then-work-n.either in
+    record {
+      keeps = record { rule = refl; width = refl; stash = refl; stays = refl };
+      done = short_put (layout g.R.Rule.count g.R.Rule.places t) (g.B.Bank.slots t.bank) (g.B.Key.Kind.bytes c.args.key) c.args.value
+          (lent c.args.work.now c.args.list.now) (λ r. elim e [ inl w ↦ omega (arith, r.0) | inr l ↦ omega (arith, r.1) ]);
+    }
 
 pub returns : goal.returns
-returns g c = ?
+returns g c =
+    let t = c.args.self.now in
+    let L = layout g.R.Rule.count g.R.Rule.places t in
+    let xs = g.B.Bank.slots t.bank in
+    let ys = g.B.Bank.slots c.place.new.self.bank in
+    let k = g.B.Key.Kind.bytes c.args.key in
+    let was : List ℕ = c.args.work.now in
+    let is : List ℕ = c.place.new.list in
+    let d = place_put L xs k c.args.value was c.args.list.now (rw c.buckets.ensures at c.if-work-n.false, rw c.buckets.ensures at c.if-list-n.false)
+    c.place.result ys is c.place.ensures.places in
+    let z : c.drop-guard.new.self.0 ≡ blank was = search rules in
+    record {
+      keeps = c.place.ensures.keeps;
+      done = subst (λ (ws : List ℕ). put_done (λ a. PutPromise L xs k c.args.value (lent was c.args.list.now) a ys (lent ws is)) c.place.result) (sym z) d;
+    }

@@ -1,5 +1,4 @@
-use Rattle.std.proofs.Common.{◌≡◌, refl, inl, inr, arith}
-use Rattle.search.specs.Searches.{Waiting}
+use Rattle.std.proofs.Common.{refl, inl, inr, arith}
 use Rattle.search.proofs.Bridging.{refilled_by, rested_by}
 use Rattle.search.proofs.Queuing.{tail_le}
 use Rattle.search.proofs.Walking.{found_road}

@@ -1,4 +1,4 @@
-use Rattle.std.proofs.Common.{◌≡◌, ℕ, ◌*◌, ◌<◌, ◌≤◌, length, get_or, sym, ap, arith}
+use Rattle.std.proofs.Common.{◌≡◌, ℕ, ◌*◌, ◌<◌, length, get_or, ap, arith}
 use Rattle.std.specs.List.{range_with_len}
 use Rattle.std.proofs.lemmas.List.FromFn.{length-range_with_len}
 use Rattle.places.specs.Choices.{listed}
@@ -20,7 +20,7 @@ loop-j-init g c = (looks_none _ _, omega arith)
 pub returns-in-Some : goal.returns-in-Some
 returns-in-Some g c =
     let xs = g.B.Bank.slots c.args.bank.now in
-    let k = g.Key.Kind.bytes c.args.key.now in
+    let k = g.B.Key.Kind.bytes c.args.key.now in
     let w = c.args.width in
     let bs = listed c.args.choices.now in
     let t = c.look_range-here.result in
@@ -34,7 +34,7 @@ returns-in-Some g c =
 pub loop-j-preserved : goal.loop-j-preserved
 loop-j-preserved g c =
     let xs = g.B.Bank.slots c.args.bank.now in
-    let k = g.Key.Kind.bytes c.args.key.now in
+    let k = g.B.Key.Kind.bytes c.args.key.now in
     let w = c.args.width in
     let bs = listed c.args.choices.now in
     let t = c.look_range-here.result in

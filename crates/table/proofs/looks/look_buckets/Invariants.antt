@@ -7,5 +7,5 @@ use Rattle.table.proofs.looks.look_buckets.Given as goal
 
 abbrev pub invariant-loop-j : goal.invariant-loop-j
 invariant-loop-j g l =
-    Looks (g.B.Bank.slots l.bank) (g.Key.Kind.bytes l.key) (flat_map (λ b. range_with_len (b * l.width) l.width) (take l.j (listed l.choices))) (unfound l.looks)
+    Looks (g.B.Bank.slots l.bank) (g.B.Key.Kind.bytes l.key) (flat_map (λ b. range_with_len (b * l.width) l.width) (take l.j (listed l.choices))) (unfound l.looks)
     × (l.looks ≤ 4 * l.j)

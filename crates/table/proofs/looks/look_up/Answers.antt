@@ -1,7 +1,6 @@
-use Rattle.std.proofs.Common.{◌≡◌, ℕ, ◌*◌, sym, ap, arith}
+use Rattle.std.proofs.Common.{ℕ, ◌*◌, arith}
 use Rattle.std.specs.List.{range_with_len, flat_map}
 use Rattle.std.proofs.lemmas.List.FromFn.{length-range_with_len}
-use Rattle.places.specs.Choices.{listed}
 use Rattle.seating.specs.Layouts.{bucket_slots}
 use Rattle.table.specs.Looks.{Looks}
 use Rattle.table.specs.Views.{scene_of}
@@ -12,7 +11,7 @@ pub returns-in-Some : goal.returns-in-Some
 returns-in-Some g c =
     let L = (scene_of g.B.Bank.slots g.R.Rule.count g.R.Rule.places c.args.ground.now).layout in
     let xs = g.B.Bank.slots c.args.ground.now.bank.now in
-    let k = g.Key.Kind.bytes c.args.key.now in
+    let k = g.B.Key.Kind.bytes c.args.key.now in
     let t = c.look_buckets-near.result in
     let f = λ (b : ℕ). range_with_len (b * L.width) L.width in
     let near : Looks xs k (flat_map f (L.choices k)) t = rw c.choices-choices.ensures at c.look_buckets-near.ensures.looks in
@@ -27,7 +26,7 @@ pub returns-in-None : goal.returns-in-None
 returns-in-None g c =
     let L = (scene_of g.B.Bank.slots g.R.Rule.count g.R.Rule.places c.args.ground.now).layout in
     let xs = g.B.Bank.slots c.args.ground.now.bank.now in
-    let k = g.Key.Kind.bytes c.args.key.now in
+    let k = g.B.Key.Kind.bytes c.args.key.now in
     let t = c.look_buckets-near.result in
     let u = c.look_range-far.result in
     let f = λ (b : ℕ). range_with_len (b * L.width) L.width in

@@ -1,7 +1,4 @@
-use Rattle.std.proofs.Common.{◌≡◌, sym, refl, ap, ◌∙◌}
-use Rattle.std.specs.Str.{bytes_eq}
-use Rattle.std.proofs.lemmas.Slice.Eq.{bytes_eq-Decides}
-use Rattle.seating.specs.Layouts.{Key, Value, Content}
+use Rattle.std.proofs.Common.{sym}
 use Rattle.table.proofs.Looking.{value_same, value_other}
 use Rattle.table.proofs.looks.value_at.Goals as goal
 

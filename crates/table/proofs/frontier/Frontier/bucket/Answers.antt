@@ -1,6 +1,6 @@
 use Rattle.std.proofs.Common.{◌≡◌, ◌<◌, arith}
 use Rattle.std.proofs.lemmas.Bool.{both_ways}
-use Rattle.search.proofs.Spreading.{spread_as, spread_then, struck_then, spread_one, struck_one, range_into, range_onto}
+use Rattle.search.proofs.Spreading.{spread_as, spread_then, spread_one, range_into, range_onto}
 use Rattle.seating.specs.Layouts.Content.{vacant}
 use Rattle.seating.specs.Slots.{at}
 use Rattle.table.proofs.frontier.Frontier.bucket.Goals as goal

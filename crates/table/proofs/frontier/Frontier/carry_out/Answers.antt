@@ -1,4 +1,4 @@
-use Rattle.std.proofs.Common.{◌≡◌, suc, ◌-◌, [], ◌∷◌, length, get_or, sym, refl, ap, ◌∙◌, arith, rules}
+use Rattle.std.proofs.Common.{◌≡◌, suc, ◌-◌, [], ◌∷◌, length, get_or, refl, ap, ◌∙◌, arith}
 use Rattle.search.specs.Queues.{slot}
 use Rattle.search.proofs.Walking.{halfway_start, halfway_more, halfway_end, trail_one, trail_on, trail_root}
 use Rattle.table.specs.Views.{view}

@@ -2,7 +2,7 @@ use Rattle.std.proofs.Common.{arith}
 use Rattle.search.specs.Searches.{Nowhere}
 use Rattle.search.proofs.Breadth.{level_into, level_onto}
 use Rattle.search.proofs.Spreading.{spread_then, struck_then}
-use Rattle.table.specs.Views.{view, scene_of}
+use Rattle.table.specs.Views.{scene_of}
 use Rattle.table.proofs.frontier.Frontier.level.Goals as goal
 
 pub returns-then-expand : goal.returns-then-expand

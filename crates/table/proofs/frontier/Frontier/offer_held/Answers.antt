@@ -1,6 +1,5 @@
-use Rattle.std.proofs.Common.{◌≡◌, arith}
+use Rattle.std.proofs.Common.{arith}
 use Rattle.std.proofs.lemmas.Bool.{both_ways}
-use Rattle.search.specs.Searches.{Toward, Spread}
 use Rattle.search.proofs.Rooting.{held_more, held_skip}
 use Rattle.search.proofs.Spreading.{spread_as}
 use Rattle.table.proofs.frontier.Frontier.offer_held.Goals as goal

@@ -10,14 +10,14 @@ pub returns-then-spread : goal.returns-then-spread
 returns-then-spread g c =
     let h = scene_of g.B.Bank.slots g.R.Rule.count g.R.Rule.places c.args.ground.now in
     let w = c.if-spread.ensures in
-    let P = Candidate h.layout (g.Key.Kind.bytes c.args.key.now) in
+    let P = Candidate h.layout (g.B.Key.Kind.bytes c.args.key.now) in
     record { rows = w.grew.len; way = struck_found h P _ _ _ c.requires.tidy c.requires.empty w }
 
 pub returns : goal.returns
 returns g c =
     let h = scene_of g.B.Bank.slots g.R.Rule.count g.R.Rule.places c.args.ground.now in
     let w = c.if-spread.ensures in
-    let P = Candidate h.layout (g.Key.Kind.bytes c.args.key.now) in
+    let P = Candidate h.layout (g.B.Key.Kind.bytes c.args.key.now) in
     let R = Seen (view c.spread.new.self) in
     let same = spread_seen P h.slots (view c.args.self.now) (view c.spread.new.self) c.requires.empty w in
     record {

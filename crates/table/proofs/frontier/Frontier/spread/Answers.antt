@@ -1,4 +1,4 @@
-use Rattle.std.proofs.Common.{◌≡◌, ◌+◌, ◌*◌, ◌<◌, get_or, sym, mul-le-mul_right, add-mul, one-mul, arith}
+use Rattle.std.proofs.Common.{◌+◌, ◌<◌, get_or, mul-le-mul_right, add-mul, one-mul, arith}
 use Rattle.places.specs.Choices.{listed}
 use Rattle.search.proofs.Bridging.{into_candidate, from_candidate}
 use Rattle.seating.proofs.Pigeons.{member}
@@ -12,7 +12,7 @@ buckets-requires g c = record {
   tidy = c.requires.tidy;
   low = λ m h.
       (let a = c.args.ground.now in
-      let k = g.Key.Kind.bytes c.args.key.now in
+      let k = g.B.Key.Kind.bytes c.args.key.now in
       let sized = sized_of g.R.Rule.count g.R.Rule.degree g.R.Rule.places a.rule.now a.width a.stash g.met.R.Rule.placed c.requires.wide in
       let e = c.choices-choices.ensures in
       let b = get_or (listed c.choices-choices.result) m 0 in
@@ -24,7 +24,7 @@ buckets-requires g c = record {
 pub returns : goal.returns
 returns g c =
     let a = c.args.ground.now in
-    let k = g.Key.Kind.bytes c.args.key.now in
+    let k = g.B.Key.Kind.bytes c.args.key.now in
     let L = layout_of g.R.Rule.count g.R.Rule.places a.rule.now a.width a.stash in
     let sized : Sized L = sized_of g.R.Rule.count g.R.Rule.degree g.R.Rule.places a.rule.now a.width a.stash g.met.R.Rule.placed c.requires.wide in
     let e = c.choices-choices.ensures in
