@@ -2,37 +2,36 @@
 ghost use Rattle.std.specs.Prelude.{◌≡◌, length, slice_index};
 ghost use Rattle.places.specs.Choices.{listed};
 
-#[derive(Clone, Copy)]
+#[derive(Clone, Copy, Debug, PartialEq, Eq)]
 pub enum Choices {
-    One(usize),
-    Two(usize, usize),
-    Three(usize, usize, usize),
+    One([usize; 1]),
+    Two([usize; 2]),
+    Three([usize; 3]),
 }
 
 impl Choices {
+    // The chosen buckets, in order.
+    pub fn as_slice(&self) -> &[usize]
+        ensures { result.now ≡ listed self.now }
+    {
+        match self {
+            Choices::One(all) => all,
+            Choices::Two(all) => all,
+            Choices::Three(all) => all,
+        }
+    }
+
     // How many choices there are.
     pub fn len(&self) -> usize
         ensures { result ≡ length (listed self.now) }
     {
-        match self {
-            Choices::One(_) => 1,
-            Choices::Two(_, _) => 2,
-            Choices::Three(_, _, _) => 3,
-        }
+        self.as_slice().len()
     }
 
     // Choice j, counted from 0, and 0 past the last.
     pub fn at(&self, j: usize) -> usize
         ensures { result ≡ slice_index (listed self.now) j }
     {
-        match (*self, j) {
-            (Choices::One(a), 0) => a,
-            (Choices::Two(a, _), 0) => a,
-            (Choices::Two(_, b), 1) => b,
-            (Choices::Three(a, _, _), 0) => a,
-            (Choices::Three(_, b, _), 1) => b,
-            (Choices::Three(_, _, c), 2) => c,
-            _ => 0,
-        }
+        self.as_slice().get(j).copied().unwrap_or(0)
     }
 }

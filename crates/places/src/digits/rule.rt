@@ -38,8 +38,8 @@ fn lowest(count: DigitCount, buckets: usize, word: u32) -> Choices
     let second = word / buckets % buckets;
     let third = word / buckets / buckets % buckets;
     match count {
-        DigitCount::Two => Choices::Two(first, second),
-        DigitCount::Three => Choices::Three(first, second, third),
+        DigitCount::Two => Choices::Two([first, second]),
+        DigitCount::Three => Choices::Three([first, second, third]),
     }
 }
 

@@ -30,7 +30,7 @@ fn halves(buckets: usize, word: u32) -> Choices
 {
     let half = buckets / 2;
     let word = word as usize;
-    Choices::Two(word % half, half + word / half % half)
+    Choices::Two([word % half, half + word / half % half])
 }
 
 impl<K: Kind> Rule<K> for Two {

@@ -46,7 +46,7 @@ fn partners(buckets: usize, word: u32) -> Choices
 {
     let first = word as usize % buckets;
     let turn = fnv1a_byte((word >> 24) as u8) as usize % buckets;
-    Choices::Two(first, first ^ turn)
+    Choices::Two([first, first ^ turn])
 }
 
 impl<K: Kind> Rule<K> for Xor {
