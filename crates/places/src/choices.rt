@@ -1,5 +1,5 @@
 // The buckets that a key chooses: one to three, in order, and the same one may come again.
-ghost use Rattle.std.specs.Prelude.{◌≡◌, length, slice_index};
+ghost use Rattle.std.specs.Prelude.{◌≡◌, ◌≤◌, length, slice_index};
 ghost use Rattle.places.specs.Choices.{listed};
 
 #[derive(Clone, Copy, Debug, PartialEq, Eq)]
@@ -12,7 +12,8 @@ pub enum Choices {
 impl Choices {
     // The chosen buckets, in order.
     pub fn as_slice(&self) -> &[usize]
-        ensures { result.now ≡ listed self.now }
+        ensures value { result.now ≡ listed self.now }
+        ensures few { length (listed self.now) ≤ 3 }
     {
         match self {
             Choices::One(all) => all,
