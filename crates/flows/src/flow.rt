@@ -1,7 +1,7 @@
 // Flows: who sends to whom, by address and port, and under which protocol.
 mod kind;
 
-#[derive(Clone, Copy)]
+#[derive(Clone, Copy, Debug, PartialEq, Eq)]
 pub struct Flow {
     pub source: u32,
     pub destination: u32,

@@ -8,38 +8,37 @@ use keys::Kind;
 
 const LENGTH: usize = 13;
 
-fn bytes_of(flow: Flow) -> [u8; LENGTH]
-    ensures { result ≡ flow_bytes flow }
-{
-    let [s0, s1, s2, s3] = flow.source.to_be_bytes();
-    let [d0, d1, d2, d3] = flow.destination.to_be_bytes();
-    let [p0, p1] = flow.source_port.to_be_bytes();
-    let [q0, q1] = flow.destination_port.to_be_bytes();
-    [
-        s0,
-        s1,
-        s2,
-        s3,
-        d0,
-        d1,
-        d2,
-        d3,
-        p0,
-        p1,
-        q0,
-        q1,
-        flow.protocol,
-    ]
+impl From<Flow> for [u8; LENGTH] {
+    ghost from_gives = { λ flow bytes. bytes ≡ flow_bytes flow };
+
+    fn from(flow: Flow) -> [u8; LENGTH] {
+        let [s0, s1, s2, s3] = flow.source.to_be_bytes();
+        let [d0, d1, d2, d3] = flow.destination.to_be_bytes();
+        let [p0, p1] = flow.source_port.to_be_bytes();
+        let [q0, q1] = flow.destination_port.to_be_bytes();
+        [
+            s0,
+            s1,
+            s2,
+            s3,
+            d0,
+            d1,
+            d2,
+            d3,
+            p0,
+            p1,
+            q0,
+            q1,
+            flow.protocol,
+        ]
+    }
 }
 
-fn same_parts(a: Flow, b: Flow) -> bool
-    ensures { Decides result (flow_bytes a ≡ flow_bytes b) }
+// Flows are the same exactly when their bytes are; taken by value, so that their sizes are known.
+fn equal(flow: Flow, other: Flow) -> bool
+    ensures { Decides result (flow_bytes flow ≡ flow_bytes other) }
 {
-    a.source == b.source
-        && a.destination == b.destination
-        && a.source_port == b.source_port
-        && a.destination_port == b.destination_port
-        && a.protocol == b.protocol
+    flow == other
 }
 
 impl Kind for Flow {
@@ -57,12 +56,12 @@ impl Kind for Flow {
     }
 
     fn byte(&self, i: usize) -> u8 {
-        let bytes = bytes_of(*self);
-        if i < LENGTH { bytes[i] } else { 0 }
+        let bytes = <[u8; LENGTH]>::from(*self);
+        bytes.get(i).copied().unwrap_or(0)
     }
 
     fn same(&self, other: &Flow) -> bool {
-        same_parts(*self, *other)
+        equal(*self, *other)
     }
 
     fn record(self) -> Flow {
