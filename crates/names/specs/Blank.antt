@@ -1,7 +1,7 @@
 -- Zeros behind a text.
-use Rattle.std.specs.Prelude.{ℕ, Bool, true, ◌&&◌, List, [], ◌∷◌, ◌==◌}
+use Rattle.std.specs.Prelude.{ℕ, Bool, List, ◌==◌}
+use Rattle.std.specs.List.{list_all}
 
 -- all of a list is zero
 abbrev pub blank : List ℕ → Bool
-blank [] = true
-blank (b ∷ bs) = b == 0 && blank bs
+blank bs = list_all (λ b. b == 0) bs

@@ -9,7 +9,7 @@ use Rattle.keys.specs.declared.refusal.Refusal.TheVariants.{NameLength}
 
 -- a name is the bytes in front of its text
 abbrev pub name_bytes : Name → Key
-name_bytes k = take k.len k.text
+name_bytes k = take k.record.len k.record.text
 
 -- 1 to 15 bytes
 abbrev pub name_long : ℕ → Bool

@@ -5,22 +5,21 @@ ghost use Rattle.names.specs.Blank.{blank};
 mod kind;
 mod make;
 
-// A name keeps its bytes in front, and zeros behind its last byte.
-#[derive(Clone, Copy)]
-pub struct Name {
-    text: [u8; 15],
-    len: usize,
-    ghost whole: { length text ≡ 15 },
-    ghost octets: { (i : ℕ) → slice_index text i < 256 },
-    ghost some: { 1 ≤ len },
-    ghost few: { len ≤ 15 },
-    ghost zeros: { blank (drop len text) ≡ true },
-}
-
 // The plain record of a name. One with another length, or with something behind its last byte, is
-// no name's.
-#[derive(Clone, Copy)]
+// no name's. A row with a length beside it, for a record is plain data that lies in lent memory.
+#[derive(Clone, Copy, Debug, PartialEq, Eq)]
 pub struct NameRecord {
     pub text: [u8; 15],
     pub len: usize,
+}
+
+// A name keeps its bytes in front, and zeros behind its last byte.
+#[derive(Clone, Copy, Debug)]
+pub struct Name {
+    record: NameRecord,
+    ghost whole: { length record.text ≡ 15 },
+    ghost octets: { (i : ℕ) → slice_index record.text i < 256 },
+    ghost some: { 1 ≤ record.len },
+    ghost few: { record.len ≤ 15 },
+    ghost zeros: { blank (drop record.len record.text) ≡ true },
 }

@@ -7,17 +7,19 @@ ghost use Rattle.names.specs.NamesLemmas.{name_sized};
 use crate::name::{Name, NameRecord};
 use keys::Kind;
 
+// Whether all bytes are zero.
+fn all_zero(bytes: &[u8]) -> bool
+    ensures { result ≡ blank bytes.now }
+{
+    bytes.iter().all(|b| *b == 0)
+}
+
 // Whether all from place n on is zero.
 fn blank_from(text: &[u8; 15], n: usize) -> bool
     requires { n ≤ 15 }
     ensures { result ≡ blank (drop n text.now) }
 {
-    for i in n..15 {
-        if text[i] != 0 {
-            return false;
-        }
-    }
-    true
+    all_zero(&text[n..])
 }
 
 impl Kind for Name {
@@ -30,11 +32,11 @@ impl Kind for Name {
     ghost sized = { name_sized };
 
     fn len(&self) -> usize {
-        self.len
+        self.as_bytes().len()
     }
 
     fn byte(&self, i: usize) -> u8 {
-        if i < self.len { self.text[i] } else { 0 }
+        self.as_bytes().get(i).copied().unwrap_or(0)
     }
 
     fn same(&self, other: &Name) -> bool {
@@ -42,22 +44,14 @@ impl Kind for Name {
     }
 
     fn record(self) -> NameRecord {
-        let text = self.text;
-        NameRecord {
-            text,
-            len: self.len,
-        }
+        self.record
     }
 
     fn restore(record: NameRecord) -> Option<Name> {
-        let len = record.len;
-        if len < 1 || len > 15 {
+        let NameRecord { text, len } = record;
+        if len < 1 || len > 15 || !blank_from(&text, len) {
             return None;
         }
-        let text = record.text;
-        if !blank_from(&text, len) {
-            return None;
-        }
-        Some(Name { text, len })
+        Some(Name { record })
     }
 }

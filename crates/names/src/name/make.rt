@@ -3,7 +3,7 @@ ghost use Rattle.std.specs.Prelude.{◌≡◌, ◌-◌, ◌≤◌, ◌++◌, len
 ghost use Rattle.std.specs.Result.{result_map_both};
 ghost use Rattle.names.specs.Names.{name_bytes, name_from};
 
-use crate::name::Name;
+use crate::name::{Name, NameRecord};
 use keys::Refusal;
 
 // The bytes, and zeros behind them.
@@ -12,9 +12,7 @@ fn padded(bytes: &[u8]) -> [u8; 15]
     ensures { result ≡ bytes.now ++ replicate (15 - length bytes.now) 0 }
 {
     let mut text = [0; 15];
-    for (i, b) in bytes.iter().enumerate() {
-        text[i] = *b;
-    }
+    text[..bytes.len()].copy_from_slice(bytes);
     text
 }
 
@@ -28,13 +26,15 @@ impl Name {
             return Err(Refusal::NameLength);
         }
         let text = padded(bytes);
-        Ok(Name { text, len })
+        Ok(Name {
+            record: NameRecord { text, len },
+        })
     }
 
     // The bytes of the name.
     pub fn as_bytes(&self) -> &[u8]
         ensures { result.now ≡ name_bytes self.now }
     {
-        &self.text[0..self.len]
+        &self.record.text[..self.record.len]
     }
 }
