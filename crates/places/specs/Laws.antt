@@ -4,14 +4,14 @@ use Rattle.std.proofs.Common.{mod-lt, arith}
 use Rattle.seating.specs.Layouts.{Key}
 use Rattle.places.specs.DigitCounts.{digits, digit_choices}
 use Rattle.places.specs.Meanings.{two_count, two_places, digits_count, digits_degree, digits_places, xor_count, xor_places}
-use Rattle.places.specs.Rules.{RuleSized, Placed, two_choices}
+use Rattle.places.specs.Rules.{RuleSized, Placed, XorSize, two_choices}
 use Rattle.places.specs.Words.{fnv}
 use Rattle.places.specs.declared.digits.DigitCount.{DigitCount}
 use Rattle.places.specs.declared.digits.DigitCount.TheVariants.{Two as two, Three as three}
 use Rattle.places.specs.declared.digits.Digits.{Digits}
 use Rattle.places.specs.declared.two.Two.{Two}
 use Rattle.places.specs.declared.xor.Xor.{Xor}
-use Rattle.places.specs.Powers.{power_few, power_some, xor_inside}
+use Rattle.places.specs.Powers.{xor_size, xor_some, xor_inside}
 
 sized : (n d : ℕ) → 1 ≤ n → n ≤ 512 → 1 ≤ d → d ≤ 3 → RuleSized n d
 sized n d a b c e = record { some = a; few = b; one = c; three = e }
@@ -47,9 +47,11 @@ digits_sized r = sized_digits r.count r.buckets r.some r.few
 pub digits_placed : (r : Digits) (k : Key) → Placed (digits_count r) (digits_degree r) (digits_places r k)
 digits_placed r k = placed_digits r.count r.buckets (fnv r.seed k) r.some
 
+xor_fits : (r : Xor) → XorSize r.buckets
+xor_fits r = xor_size r.buckets r.power r.few
+
 pub xor_sized : (r : Xor) → RuleSized (xor_count r) 2
-xor_sized r =
-    sized r.buckets 2 (power_some r.exponent r.buckets r.power) (power_few r.exponent r.buckets r.low r.power) (omega arith) (omega arith)
+xor_sized r = sized r.buckets 2 (xor_some r.buckets (xor_fits r)) r.few (omega arith) (omega arith)
 
 pub xor_placed : (r : Xor) (k : Key) → Placed (xor_count r) 2 (xor_places r k)
 xor_placed r k =
@@ -57,7 +59,7 @@ xor_placed r k =
     record {
       count = refl;
       inside = (
-        mod-lt h (power_some r.exponent r.buckets r.power),
-        (xor_inside r.exponent r.buckets h (fnv 0 ((h / 2 ^ 24) ∷ [])) r.power, tt),
+        mod-lt h (xor_some r.buckets (xor_fits r)),
+        (xor_inside r.buckets h (fnv 0 ((h / 2 ^ 24) ∷ [])) (xor_fits r), tt),
       );
     }

@@ -15,6 +15,7 @@ fn step(word: u32, byte: u8) -> u32
 }
 
 // 32-bit FNV-1a of the key's bytes, begun from a seed.
+#[tactic(auto, using(crate::proofs::Words::fnv_more, crate::proofs::Words::fnv_all))]
 pub fn fnv1a<K: Kind>(seed: u32, key: &K) -> u32
     ensures { result ≡ fnv seed (K.Kind.bytes key.now) }
 {

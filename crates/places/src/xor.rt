@@ -1,14 +1,14 @@
 // The rule `xor`: the second choice is the first, exclusive or a number made of the word's highest
 // byte, so either choice and that byte tell the other.
-ghost use Rattle.std.specs.Prelude.{◌≡◌, ◌^◌, ◌≤◌};
+ghost use Rattle.std.specs.Prelude.{◌≡◌, ◌≤◌, true};
+ghost use Rattle.std.specs.Int.{is_power_of_two};
 
 mod rule;
 
-#[derive(Clone, Copy)]
+#[derive(Clone, Copy, Debug)]
 pub struct Xor {
     buckets: usize,
     seed: u32,
-    exponent: u32,
-    ghost low: { exponent ≤ 9 },
-    ghost power: { buckets ≡ 2 ^ exponent },
+    ghost few: { buckets ≤ 512 },
+    ghost power: { is_power_of_two buckets ≡ true },
 }

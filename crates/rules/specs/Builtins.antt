@@ -4,7 +4,7 @@ use Rattle.seating.specs.Layouts.{Key}
 use Rattle.places.specs.Meanings.{two_count, two_places, digits_count, digits_degree, digits_places, xor_count, xor_places}
 use Rattle.places.specs.Rules.{TwoSize, DigitSize, XorSize, two_choices, dig2_choices, dig3_choices, xor_choices}
 use Rattle.rules.specs.declared.builtin.Builtin.{Builtin}
-use Rattle.rules.specs.declared.builtin.Builtin.TheVariants.{Two as ofTwo, Digits as ofDigits, Xor as ofXor}
+use Rattle.rules.specs.declared.builtin.Builtin.TheVariants.{Two as by_two, Digits as by_digits, Xor as by_xor}
 use Rattle.rules.specs.declared.builtin.RuleName.{RuleName}
 use Rattle.rules.specs.declared.builtin.RuleName.TheVariants.{Two, Dig2, Dig3, Xor}
 
@@ -23,16 +23,16 @@ name_choices Dig3 n h = dig3_choices n h
 name_choices Xor n h = xor_choices n h
 
 abbrev pub builtin_count : Builtin → ℕ
-builtin_count (ofTwo r) = two_count r
-builtin_count (ofDigits r) = digits_count r
-builtin_count (ofXor r) = xor_count r
+builtin_count (by_two r) = two_count r
+builtin_count (by_digits r) = digits_count r
+builtin_count (by_xor r) = xor_count r
 
 abbrev pub builtin_degree : Builtin → ℕ
-builtin_degree (ofTwo r) = 2
-builtin_degree (ofDigits r) = digits_degree r
-builtin_degree (ofXor r) = 2
+builtin_degree (by_two r) = 2
+builtin_degree (by_digits r) = digits_degree r
+builtin_degree (by_xor r) = 2
 
 abbrev pub builtin_places : Builtin → Key → List ℕ
-builtin_places (ofTwo r) k = two_places r k
-builtin_places (ofDigits r) k = digits_places r k
-builtin_places (ofXor r) k = xor_places r k
+builtin_places (by_two r) k = two_places r k
+builtin_places (by_digits r) k = digits_places r k
+builtin_places (by_xor r) k = xor_places r k

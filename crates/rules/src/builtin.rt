@@ -3,7 +3,7 @@ mod rule;
 
 use places::{Digits, Two, Xor};
 
-#[derive(Clone, Copy)]
+#[derive(Clone, Copy, Debug, PartialEq, Eq)]
 pub enum RuleName {
     Two,
     Dig2,
@@ -11,7 +11,8 @@ pub enum RuleName {
     Xor,
 }
 
-#[derive(Clone, Copy)]
+// An enum of the rules, since a function may not make a `dyn` rule and hand it out.
+#[derive(Clone, Copy, Debug)]
 pub enum Builtin {
     Two(Two),
     Digits(Digits),

@@ -29,6 +29,7 @@ impl Digits {
     }
 }
 
+#[tactic(auto, using(crate::proofs::Quotients::digit_zero, crate::proofs::Quotients::digit_one, crate::proofs::Quotients::digit_two))]
 fn lowest(count: DigitCount, buckets: usize, word: u32) -> Choices
     requires { DigitSize buckets }
     ensures { listed result ≡ digit_choices count buckets word }

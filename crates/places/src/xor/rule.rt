@@ -1,5 +1,5 @@
 // `xor` made, and as a place rule.
-ghost use Rattle.std.specs.Prelude.{◌≡◌, ℕ, ◌^◌, ◌≤◌, MatchOption, ◌≢◌};
+ghost use Rattle.std.specs.Prelude.{◌≡◌};
 ghost use Rattle.places.specs.Choices.{listed};
 ghost use Rattle.places.specs.Made.{MadeUnder, ChoosesBy};
 ghost use Rattle.places.specs.Meanings.{xor_count, xor_places};
@@ -12,31 +12,16 @@ use crate::word::{fnv1a, fnv1a_byte};
 use crate::xor::Xor;
 use keys::{Kind, Refusal};
 
-// The exponent to which 2 gives n, if it is at most 9.
-fn exponent_of(n: usize) -> Option<u32>
-    ensures { MatchOption result ((k : ℕ) → k ≤ 9 → n ≢ 2 ^ k) (λ k. (k ≤ 9) × (n ≡ 2 ^ k)) }
-{
-    for k in 0..10u32 {
-        if n == 1usize << k {
-            return Some(k);
-        }
-    }
-    None
-}
-
 impl Xor {
     // The rule with a power of two for the number of buckets, from 1 to 512.
+    #[tactic(auto, using(crate::specs::Powers::xor_size, crate::specs::Powers::power_of_xor))]
     pub fn new(buckets: usize, seed: u32) -> Result<Xor, Refusal>
         ensures { MadeUnder (XorSize buckets) (ChoosesBy xor_count xor_places xor_choices buckets seed) result }
     {
-        match exponent_of(buckets) {
-            None => Err(Refusal::Size),
-            Some(exponent) => Ok(Xor {
-                buckets,
-                seed,
-                exponent,
-            }),
+        if buckets > 512 || !buckets.is_power_of_two() {
+            return Err(Refusal::Size);
         }
+        Ok(Xor { buckets, seed })
     }
 }
 
@@ -68,6 +53,7 @@ impl<K: Kind> Rule<K> for Xor {
         2
     }
 
+    #[tactic(auto, using(crate::specs::Powers::xor_size))]
     fn choices(&self, key: &K) -> Choices {
         partners(self.buckets, fnv1a(self.seed, key))
     }
