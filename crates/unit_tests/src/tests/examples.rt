@@ -69,16 +69,6 @@ fn sizes_at_their_edges(rt: HostRuntime) {
     }
 }
 
-// Whether the choices are just these buckets, in order.
-fn lists(choices: &Choices, buckets: &[usize]) -> bool {
-    for (j, b) in buckets.iter().enumerate() {
-        if choices.at(j) != *b {
-            return false;
-        }
-    }
-    choices.len() == buckets.len()
-}
-
 // A rule, its number of buckets, a name, and the choices of the name with seed 0.
 const CHOSEN: [(RuleName, usize, &[u8], &[usize]); 6] = [
     (RuleName::Dig2, 4, b"a", &[0, 3]),
@@ -95,7 +85,7 @@ fn choices_of_each_rule(rt: HostRuntime) -> Result<(), Fail> {
         let Ok(rule) = Builtin::new(name, n, 0) else {
             return Err(Fail::new("no rule"));
         };
-        assert!(rt; lists(&rule.choices(&named(text)?), buckets));
+        assert!(rt; rule.choices(&named(text)?).as_slice() == buckets);
     }
     Ok(())
 }
@@ -145,6 +135,7 @@ fn bytes_of_a_flow(rt: HostRuntime) -> Result<(), Fail> {
     for (i, b) in bytes.iter().enumerate() {
         assert_eq!(rt; flow.byte(i), *b);
     }
+    assert_eq!(rt; <[u8; 13]>::from(flow), bytes);
     assert_eq!(rt; flow.byte(13), 0);
     assert_eq!(rt; flow.len(), 13);
     assert!(rt;
@@ -161,9 +152,9 @@ fn rule_of_a_customer(rt: HostRuntime) -> Result<(), Fail> {
         return Err(Fail::new("no rule"));
     };
     let name = named(&[7, 213, 9])?;
-    assert!(rt; lists(&rule.choices(&name), &[7, 13]));
+    assert_eq!(rt; rule.choices(&name), Choices::Two([7, 13]));
     let short = named(&[7])?;
-    assert!(rt; lists(&rule.choices(&short), &[7, 0]));
+    assert_eq!(rt; rule.choices(&short), Choices::Two([7, 0]));
     assert!(rt; ByBytes::new(0).is_err() && ByBytes::new(513).is_err());
     Ok(())
 }

@@ -4,55 +4,55 @@ use numerals::read_number;
 use std::test::Fail;
 use text::Spelled;
 
-// A text and the number that it writes; 1 stands for none.
+// A text and the number that it writes, if it is that of one.
 struct Numeral {
     text: &'static [u8],
-    number: u64,
+    number: Option<u64>,
 }
 
 const NUMERALS: [Numeral; 9] = [
     Numeral {
         text: b"0",
-        number: 0,
+        number: Some(0),
     },
     Numeral {
         text: b"407",
-        number: 407,
+        number: Some(407),
     },
     Numeral {
         text: b"999999999999999999",
-        number: 999_999_999_999_999_999,
+        number: Some(999_999_999_999_999_999),
     },
     Numeral {
         text: b"1000000000000000000",
-        number: 1,
+        number: None,
     },
     Numeral {
         text: b"00",
-        number: 1,
+        number: None,
     },
     Numeral {
         text: b"007",
-        number: 1,
+        number: None,
     },
     Numeral {
         text: b"",
-        number: 1,
+        number: None,
     },
     Numeral {
         text: b"+1",
-        number: 1,
+        number: None,
     },
     Numeral {
         text: b"1a",
-        number: 1,
+        number: None,
     },
 ];
 
 #[test]
 fn numbers(rt: HostRuntime) {
-    for n in NUMERALS.iter() {
-        assert_eq!(rt; read_number(n.text).unwrap_or(1), n.number);
+    for numeral in NUMERALS.iter() {
+        assert_eq!(rt; read_number(numeral.text), numeral.number);
     }
 }
 
