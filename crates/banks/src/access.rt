@@ -10,10 +10,7 @@ use keys::Refusal;
 pub fn content_at<B: Bank>(bank: &B, i: usize) -> Option<Entry<B::Key>>
     ensures { content_of B.Key.Kind.bytes result ≡ slice_index_or (B.Bank.slots bank.now) i vacant }
 {
-    match bank.read(i) {
-        Ok(content) => content,
-        Err(_) => None,
-    }
+    bank.read(i).unwrap_or(None)
 }
 
 // Has slot i hold the content, or empties it.

@@ -7,8 +7,8 @@ ghost use Rattle.banks.specs.Slots.{content_of, read_of, done_at};
 
 use keys::{Kind, Refusal};
 
-// A key with its value, as a slot holds them.
-#[derive(Clone, Copy)]
+// A key, or a record of one, with its value, as a slot holds them.
+#[derive(Clone, Copy, Debug, PartialEq, Eq)]
 pub struct Entry<K> {
     pub key: K,
     pub value: u64,

@@ -2,14 +2,11 @@
 mod records;
 mod store;
 
+use crate::bank::Entry;
 use keys::Kind;
 
-// A slot's record: marked empty, or with the plain record of a key and the value.
-#[derive(Clone, Copy)]
-pub enum SlotRecord<R> {
-    Empty,
-    Held(R, u64),
-}
+// A slot's record: none where the slot is marked empty, else the plain record of a key and the value.
+pub type SlotRecord<R> = Option<Entry<R>>;
 
 // A bank over a lent slice of slot records, for any kind of key.
 #[derive(Drop)]

@@ -9,17 +9,13 @@ use crate::bank::Entry;
 use crate::memory::SlotRecord;
 use keys::{Kind, Refusal};
 
-// What a record holds.
+// What a record holds: nothing, where it is that of no key.
 fn told_by<K: Kind>(slot: SlotRecord<K::Record>) -> Option<Entry<K>>
     ensures { content_of K.Kind.bytes result ≡ record_means K.Kind.means slot }
 {
-    match slot {
-        SlotRecord::Empty => None,
-        SlotRecord::Held(record, value) => match K::restore(record) {
-            None => None,
-            Some(key) => Some(Entry { key, value }),
-        },
-    }
+    let Entry { key, value } = slot?;
+    let key = K::restore(key)?;
+    Some(Entry { key, value })
 }
 
 // What record i holds.
@@ -29,10 +25,8 @@ pub fn slot_at<K: Kind>(
 ) -> Result<Option<Entry<K>>, Refusal>
     ensures { result_map_both (content_of K.Kind.bytes) (λ e. e) result ≡ read_of (map (record_means K.Kind.means) slots.now) i }
 {
-    if i >= slots.len() {
-        return Err(Refusal::NoSlot);
-    }
-    Ok(told_by::<K>(slots[i]))
+    let slot = slots.get(i).ok_or(Refusal::NoSlot)?;
+    Ok(told_by::<K>(*slot))
 }
 
 // Puts a record at place i.

@@ -32,11 +32,14 @@ impl<'a, K: Kind> Bank for Memory<'a, K> {
         slot_at::<K>(self.slots, i)
     }
 
+    #[tactic(auto, using(crate::proofs::Recorded::set_map))]
     fn write(&mut self, i: usize, key: K, value: u64) -> Result<(), Refusal> {
-        set_slot(self.slots, i, SlotRecord::Held(key.record(), value))
+        let key = key.record();
+        set_slot(self.slots, i, Some(Entry { key, value }))
     }
 
+    #[tactic(auto, using(crate::proofs::Recorded::set_map))]
     fn clear(&mut self, i: usize) -> Result<(), Refusal> {
-        set_slot(self.slots, i, SlotRecord::Empty)
+        set_slot(self.slots, i, None)
     }
 }
