@@ -1,3 +1,2 @@
 pub mod Spreads
-pub mod Tally
 pub mod Summaries

@@ -1,10 +1,10 @@
 -- How keys spread over buckets.
-use Rattle.std.specs.Prelude.{◌≡◌, ℕ, suc, ◌+◌, ◌-◌, ◌^◌, ◌<◌, ◌≤◌, min, Bool, false, cond, ◌||◌, List, [], ◌∷◌, length, ◌==◌, slice_index}
+use Rattle.std.specs.Prelude.{◌≡◌, ℕ, ◌+◌, ◌-◌, ◌^◌, ◌<◌, ◌≤◌, min, Bool, cond, List, length, ◌==◌, slice_index, count_by}
+use Rattle.std.specs.List.{list_any}
 
 -- bucket b is among the choices
 abbrev pub chosen : ℕ → List ℕ → Bool
-chosen b [] = false
-chosen b (c ∷ cs) = b == c || chosen b cs
+chosen b choices = list_any (λ c. c == b) choices
 
 -- one more, up to the largest count
 abbrev pub more : ℕ → ℕ
@@ -17,8 +17,7 @@ pub record Noted (choices before after : List ℕ) : Type 0 where
 
 -- how many buckets no key chose
 abbrev pub idle : List ℕ → ℕ
-idle [] = 0
-idle (c ∷ cs) = cond (c == 0) (suc (idle cs)) (idle cs)
+idle counts = count_by (λ c. c == 0) counts
 
 -- b is the lowest of the buckets that the most keys chose
 pub record Busiest (counts : List ℕ) (b : ℕ) : Type 0 where

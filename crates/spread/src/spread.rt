@@ -1,17 +1,24 @@
 // The counts of keys, bucket by bucket.
-ghost use Rattle.std.specs.Prelude.{◌≡◌, ◌≤◌, length};
+use arrayvec::ArrayVec;
+use std::marker::Model;
 
 mod notes;
 mod reports;
 
 pub use reports::Summary;
 
-// Of the counts, the first ones are those of the buckets; the others stay zero.
+// How many keys chose each bucket, of at most 512.
 #[derive(Drop)]
 pub struct Spread {
-    counts: [u64; 512],
-    buckets: usize,
-    ghost whole: { length counts ≡ 512 },
-    ghost some: { 1 ≤ buckets },
-    ghost few: { buckets ≤ 512 },
+    counts: ArrayVec<u64, 512>,
+}
+
+impl Model for Spread {
+    ghost use Rattle.std.specs.Prelude.{ℕ, ◌≤◌, List, length};
+
+    ghost Value = { List ℕ };
+
+    ghost view = { λ s. s.counts.items };
+
+    ghost invariant = { λ s. 1 ≤ length s.counts.items };
 }

@@ -1,34 +1,29 @@
 // A key noted with its choices.
-ghost use Rattle.std.specs.Prelude.{◌≡◌, ◌≤◌, length, take, replicate};
+ghost use Rattle.std.specs.Prelude.{◌≡◌, replicate, slice_index, slice_set};
 ghost use Rattle.places.specs.Choices.{listed};
-ghost use Rattle.spread.specs.Spreads.{chosen, Noted};
-ghost use Rattle.spread.specs.Tally.{tally};
+ghost use Rattle.spread.specs.Spreads.{more, Noted};
 
 use crate::spread::Spread;
+use arrayvec::ArrayVec;
 use keys::Kind;
 use places::{Choices, Rule};
 
-// Whether the bucket is among the first n choices.
-fn chosen_before(choices: &Choices, n: usize, bucket: usize) -> bool
-    requires { n ≤ length (listed choices.now) }
-    ensures { result ≡ chosen bucket (take n (listed choices.now)) }
+// One key more for the bucket, if there is one.
+fn note_bucket(counts: &mut ArrayVec<u64, 512>, bucket: usize)
+    ensures { counts.new.items ≡ slice_set counts.old.items bucket (more (slice_index counts.old.items bucket)) }
 {
-    for j in 0..n {
-        if choices.at(j) == bucket {
-            return true;
-        }
+    if let Some(count) = counts.get_mut(bucket) {
+        *count = count.saturating_add(1);
     }
-    false
 }
 
 // One key more for each bucket among the choices.
-fn note_all(counts: &mut [u64], choices: &Choices)
-    ensures { Noted (listed choices.now) counts.old counts.new }
+fn note_all(counts: &mut ArrayVec<u64, 512>, choices: &[usize])
+    ensures { Noted choices.now counts.old.items counts.new.items }
 {
-    for j in 0..choices.len() {
-        let b = choices.at(j);
-        if b < counts.len() && !chosen_before(choices, j, b) {
-            counts[b] = counts[b].saturating_add(1);
+    for (j, bucket) in choices.iter().enumerate() {
+        if !choices[..j].contains(bucket) {
+            note_bucket(counts, *bucket);
         }
     }
 }
@@ -36,19 +31,17 @@ fn note_all(counts: &mut [u64], choices: &Choices)
 impl Spread {
     // No key yet, over the buckets of a rule.
     pub fn over<K: Kind, R: Rule<K>>(rule: &R) -> Spread
-        ensures { tally result ≡ replicate (R.Rule.count rule.now) 0 }
+        ensures { result ≡ replicate (R.Rule.count rule.now) 0 }
     {
-        let buckets = rule.buckets();
-        Spread {
-            counts: [0; 512],
-            buckets,
-        }
+        let mut counts = ArrayVec::from([0; 512]);
+        counts.truncate(rule.buckets());
+        Spread { counts }
     }
 
     // One key more, with its choices.
     pub fn note(&mut self, choices: &Choices)
-        ensures { Noted (listed choices.now) (tally self.old) (tally self.new) }
+        ensures { Noted (listed choices.now) self.old self.new }
     {
-        note_all(&mut self.counts, choices);
+        note_all(&mut self.counts, choices.as_slice());
     }
 }

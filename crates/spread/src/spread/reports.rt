@@ -2,7 +2,6 @@
 ghost use Rattle.std.specs.Prelude.{◌≡◌, ◌*◌, ◌^◌, ◌<◌, ◌≤◌, length, sum};
 ghost use Rattle.spread.specs.Spreads.{idle, Busiest};
 ghost use Rattle.spread.specs.Summaries.{Tells};
-ghost use Rattle.spread.specs.Tally.{tally};
 
 use crate::spread::Spread;
 
@@ -10,13 +9,7 @@ use crate::spread::Spread;
 fn zeros(counts: &[u64]) -> usize
     ensures { result ≡ idle counts.now }
 {
-    let mut n = 0;
-    for c in counts {
-        if *c == 0 {
-            n += 1;
-        }
-    }
-    n
+    counts.iter().filter(|count| **count == 0).count()
 }
 
 // The place of the first of the largest counts.
@@ -24,13 +17,8 @@ fn largest(counts: &[u64]) -> usize
     requires { 0 < length counts.now }
     ensures { Busiest counts.now result }
 {
-    let mut best = 0;
-    for j in 1..counts.len() {
-        if counts[j] > counts[best] {
-            best = j;
-        }
-    }
-    best
+    let most = counts.iter().copied().max().unwrap_or(0);
+    counts.iter().position(|count| *count == most).unwrap_or(0)
 }
 
 fn total(counts: &[u64]) -> u128
@@ -38,15 +26,11 @@ fn total(counts: &[u64]) -> u128
     ensures value { result ≡ sum counts.now }
     ensures bound { result ≤ 512 * 2 ^ 64 }
 {
-    let mut n = 0u128;
-    for c in counts {
-        n += u128::from(*c);
-    }
-    n
+    counts.iter().map(|count| u128::from(*count)).sum()
 }
 
 // What was noted, in numbers.
-#[derive(Clone, Copy)]
+#[derive(Clone, Copy, Debug, PartialEq, Eq)]
 pub struct Summary {
     pub buckets: usize,
     // how many buckets no key chose
@@ -61,16 +45,18 @@ pub struct Summary {
 impl Spread {
     // What was noted so far, in numbers.
     pub fn summary(&self) -> Summary
-        ensures { Tells (tally self.now) result }
+        ensures tells { Tells self.now result }
+        ensures some { 1 ≤ result.buckets }
+        ensures few { result.buckets ≤ 512 }
     {
-        let counts = &self.counts[0..self.buckets];
+        let counts = self.counts.as_slice();
         let busiest = largest(counts);
         Summary {
-            buckets: self.buckets,
+            buckets: counts.len(),
             idle: zeros(counts),
             busiest,
             keys: counts[busiest],
-            mean: total(counts) * 100 / self.buckets as u128,
+            mean: total(counts) * 100 / counts.len() as u128,
         }
     }
 }

@@ -1,8 +1,7 @@
 use Rattle.std.proofs.Common.{take}
-use Rattle.places.specs.Choices.{listed}
 use Rattle.spread.specs.Spreads.{Noted}
 use Rattle.spread.proofs.spread.notes.note_all.Given as goal
 
 -- the choices so far are noted
 abbrev pub invariant-loop-j : goal.invariant-loop-j
-invariant-loop-j l = Noted (take l.j (listed l.choices)) l.initial.counts l.counts
+invariant-loop-j l = Noted (take l.j l.choices) l.initial.counts.items l.counts.items
