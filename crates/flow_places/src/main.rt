@@ -4,10 +4,9 @@
 use flows::Flow;
 use lines::next_line;
 use names::Name;
-use places::Rule;
-use placing::answer_line;
+use placing::{Outcome, Placer};
 use settings::{KindName, Setting, read_setting};
-use spread::{Spread, Summary};
+use spread::Summary;
 use std::alloc::Global;
 use std::io;
 use std::io::{BufRead, BufReader, BufWriter, Write};
@@ -30,49 +29,60 @@ fn first_setting<F: BufRead, W: Write>(from: &mut F, out: &mut W) -> io::Result<
     Ok(None)
 }
 
+// How many lines were answered with a place, and how many were refused.
+#[derive(Clone, Copy, Debug, Default, PartialEq, Eq)]
+struct Counts {
+    placed: u64,
+    refused: u64,
+}
+
+impl Counts {
+    // One line more.
+    fn count(&mut self, outcome: Outcome) {
+        match outcome {
+            Outcome::Placed => self.placed = self.placed.saturating_add(1),
+            Outcome::Refused => self.refused = self.refused.saturating_add(1),
+        }
+    }
+}
+
 // What was done, in numbers.
-fn report<W: Write>(spread: &Spread, placed: u64, refused: u64, out: &mut W) -> io::Result<()> {
+fn report<W: Write>(counts: Counts, summary: Summary, out: &mut W) -> io::Result<()> {
+    let Counts { placed, refused } = counts;
     let Summary {
         buckets,
         idle,
         busiest,
         keys,
         mean,
-    } = spread.summary();
+    } = summary;
     let whole = mean / 100;
-    let tenth = mean / 10 % 10;
-    let hundredth = mean % 10;
+    let hundredths = mean % 100;
     writeln!(out, "placed {placed} keys, refused {refused} lines")?;
     writeln!(out, "{buckets} buckets, {idle} of them chosen by no key")?;
     writeln!(out, "most chosen: bucket {busiest}, by {keys} keys")?;
-    writeln!(out, "mean: {whole}.{tenth}{hundredth} keys a bucket")
+    writeln!(out, "mean: {whole}.{hundredths:02} keys a bucket")
 }
 
 // Answers all lines that are left, and reports.
-fn place_lines<K: Spelled, R: Rule<K>, F: BufRead, W: Write>(
+fn place_lines<K: Spelled, F: BufRead, W: Write>(
     heap: Global,
-    rule: &R,
-    seed: u32,
+    setting: &Setting,
     from: &mut F,
     out: &mut W,
 ) -> io::Result<()> {
-    let mut spread = Spread::over::<K, R>(rule);
-    let mut placed = 0u64;
-    let mut refused = 0u64;
+    let mut placer = Placer::new::<K>(&setting.rule, setting.seed);
+    let mut counts = Counts::default();
     let mut text = Vec::new(heap);
     for _ in 0..u64::MAX {
         let Some(line) = next_line(from)? else {
             break;
         };
         text.clear();
-        if answer_line::<K, R>(heap, rule, seed, line.get(), &mut spread, &mut text)? {
-            placed = placed.saturating_add(1);
-        } else {
-            refused = refused.saturating_add(1);
-        }
+        counts.count(placer.answer::<K>(line.get(), &mut text)?);
         out.write_all(text.as_slice())?;
     }
-    report(&spread, placed, refused, out)
+    report(counts, placer.spread.summary(), out)
 }
 
 fn main(rt: HostRuntime) -> io::Result<()> {
@@ -80,21 +90,9 @@ fn main(rt: HostRuntime) -> io::Result<()> {
     let mut from = BufReader::new(heap, rt.stdin())?;
     let mut out = BufWriter::new(heap, rt.stdout())?;
     match first_setting(&mut from, &mut out)? {
-        Some(found) => match found.kind {
-            KindName::Flow => place_lines::<Flow, _, _, _>(
-                heap,
-                &found.rule,
-                found.seed,
-                &mut from,
-                &mut out,
-            )?,
-            KindName::Name => place_lines::<Name, _, _, _>(
-                heap,
-                &found.rule,
-                found.seed,
-                &mut from,
-                &mut out,
-            )?,
+        Some(setting) => match setting.kind {
+            KindName::Flow => place_lines::<Flow, _, _>(heap, &setting, &mut from, &mut out)?,
+            KindName::Name => place_lines::<Name, _, _>(heap, &setting, &mut from, &mut out)?,
         },
         None => out.write_all(b"no rule was given, so no key was placed\n")?,
     }

@@ -1,18 +1,14 @@
--- Text appended piece by piece.
-use Rattle.std.proofs.Common.{◌≡◌, ℕ, ◌+◌, ◌<◌, List, ◌++◌, length, get_or, take, sym, ap, ◌∙◌}
+-- Lines appended.
+use Rattle.std.proofs.Common.{◌≡◌, ℕ, List, [], ◌∷◌, ◌++◌, Ok, Err, Result, OnOk, is_ok, codes, ap, ◌∙◌, append_assoc}
 use Rattle.std.specs.List.{flat_map}
-use Rattle.std.proofs.lemmas.List.{append_assoc, flat_map_more, take_more}
-use Rattle.placing.specs.Shown.{spaced}
+use Rattle.placing.specs.Shown.{hex_text, spaced, place_text}
 
--- one choice more
-pub choices_more : (start now new bs : List ℕ) (j n : ℕ) → j < length bs → n ≡ get_or bs j 0 → now ≡ start ++ flat_map spaced (take j bs) → new ≡ now ++ spaced n → new ≡ start ++ flat_map spaced (take (j + 1) bs)
-choices_more start now new bs j n l m h e =
-    e ∙ ap (λ (s : List ℕ). s ++ spaced n) h
-    ∙ ap (λ (k : ℕ). (start ++ flat_map spaced (take j bs)) ++ spaced k) m
-    ∙ flat_map_more spaced start (take j bs) (get_or bs j 0)
-    ∙ ap (λ (s : List ℕ). start ++ flat_map spaced s) (sym (take_more bs j 0 l))
+-- what holds on success holds where the error is another one
+pub on_ok_alike : {T E D : Type 0} (P : Type 0) (r : Result T E) (q : Result T D) → is_ok q ≡ is_ok r → OnOk r P → OnOk q P
+on_ok_alike P (Ok x) (Ok y) e h = h
+on_ok_alike P (Err x) (Ok y) e h = cc
+on_ok_alike P r (Err y) e h = tt
 
--- four pieces, one behind another
-pub four_pieces : (v w x y z a b c d : List ℕ) → w ≡ v ++ a → x ≡ w ++ b → y ≡ x ++ c → z ≡ y ++ d → z ≡ v ++ (a ++ (b ++ (c ++ d)))
-four_pieces v w x y z a b c d e f g h =
-    h ∙ ap (λ (s : List ℕ). s ++ d) (g ∙ ap (λ (s : List ℕ). s ++ c) (f ∙ ap (λ (s : List ℕ). s ++ b) e)) ∙ simp append_assoc
+-- the word and the choices behind the text of a key
+pub place_line : (old mid new key : List ℕ) (word : ℕ) (bs : List ℕ) → mid ≡ old ++ key → new ≡ mid ++ (codes " 0x" ++ (hex_text word ++ (flat_map spaced bs ++ 10 ∷ []))) → new ≡ old ++ (place_text key word bs ++ 10 ∷ [])
+place_line old mid new key word bs f e = e ∙ ap (λ (s : List ℕ). s ++ (codes " 0x" ++ (hex_text word ++ (flat_map spaced bs ++ 10 ∷ [])))) f ∙ simp append_assoc

@@ -1,40 +1,46 @@
-// A line of a key answered.
-ghost use Rattle.std.specs.Prelude.{◌≡◌, ◌++◌, is_ok, IfOk, OnOk};
+// Lines of keys answered.
+ghost use Rattle.std.specs.Prelude.{◌≡◌, ◌++◌, IfOk, OnOk};
 ghost use Rattle.std.specs.Option.{option_map};
-ghost use Rattle.spread.specs.Tally.{tally};
 ghost use Rattle.placing.specs.Answers.{line_key, answer_text, Kept};
+ghost use Rattle.placing.specs.Outcomes.{outcome_of};
 
-use crate::place::place;
-use crate::show::push_place;
+use crate::placer::Placer;
 use places::Rule;
-use spread::Spread;
-use std::alloc::{AllocError, Global};
+use std::alloc::AllocError;
+use std::io::Write;
 use text::Spelled;
 
-// Appends the answer to a line, and notes the key that it says. False where the line is refused.
-pub fn answer_line<K: Spelled, R: Rule<K>>(
-    heap: Global,
-    rule: &R,
-    seed: u32,
-    line: Option<&[u8]>,
-    spread: &mut Spread,
-    out: &mut Vec<u8>,
-) -> Result<bool, AllocError>
-    ensures test { IfOk result (λ b. b ≡ is_ok (line_key K.Spelled.reads (option_map (λ x. x.now) line.entry))) }
-    ensures text { OnOk result (out.new.items ≡ out.old.items ++ answer_text K.Spelled.text (R.Rule.places rule.now) seed (line_key K.Spelled.reads (option_map (λ x. x.now) line.entry))) }
-    ensures counts { Kept (R.Rule.places rule.now) (line_key K.Spelled.reads (option_map (λ x. x.now) line.entry)) (tally spread.old) (tally spread.new) }
-{
-    match place::<K, R>(rule, seed, line) {
-        Ok(placed) => {
-            spread.note(&placed.choices);
-            push_place(heap, &placed.key, placed.word, &placed.choices, out)?;
-            out.push(b'\n')?;
-            Ok(true)
-        }
-        Err(refusal) => {
-            let text = format!(in heap; "{refusal}\n")?;
-            out.extend_from_slice(text.as_bytes())?;
-            Ok(false)
+// What became of a line.
+#[derive(Clone, Copy, Debug, PartialEq, Eq)]
+pub enum Outcome {
+    Placed,
+    Refused,
+}
+
+impl<R> Placer<'_, R> {
+    // Appends the answer to a line, and notes the key that it says.
+    pub fn answer<K: Spelled>(
+        &mut self,
+        line: Option<&[u8]>,
+        out: &mut Vec<u8>,
+    ) -> Result<Outcome, AllocError>
+    where
+        R: Rule<K>,
+        ensures outcome { IfOk result (λ o. o ≡ outcome_of (line_key K.Spelled.reads (option_map (λ x. x.now) line.entry))) }
+        ensures text { OnOk result (out.new.items ≡ out.old.items ++ answer_text K.Spelled.text (R.Rule.places self.old.rule.now) self.old.seed (line_key K.Spelled.reads (option_map (λ x. x.now) line.entry))) }
+        ensures counts { Kept (R.Rule.places self.old.rule.now) (line_key K.Spelled.reads (option_map (λ x. x.now) line.entry)) self.old.spread self.new.spread }
+        ensures same { self.new ≡ record self.old { spread = self.new.spread } }
+    {
+        match self.place::<K>(line) {
+            Ok(placed) => {
+                self.spread.note(&placed.choices);
+                placed.write_line(out)?;
+                Ok(Outcome::Placed)
+            }
+            Err(refusal) => {
+                writeln!(out, "{refusal}").map_err(|_| AllocError)?;
+                Ok(Outcome::Refused)
+            }
         }
     }
 }

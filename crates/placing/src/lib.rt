@@ -3,6 +3,8 @@
 
 mod answer;
 mod place;
+mod placer;
 mod show;
 
-pub use answer::answer_line;
+pub use answer::Outcome;
+pub use placer::Placer;
