@@ -1,6 +1,6 @@
 // Lines of keys answered.
 ghost use Rattle.std.specs.Prelude.{◌≡◌, ◌++◌, IfOk, OnOk};
-ghost use Rattle.std.specs.Option.{option_map};
+ghost use Rattle.std.specs.Option.{option_copied};
 ghost use Rattle.placing.specs.Answers.{line_key, answer_text, Kept};
 ghost use Rattle.placing.specs.Outcomes.{outcome_of};
 
@@ -26,9 +26,12 @@ impl<R> Placer<'_, R> {
     ) -> Result<Outcome, AllocError>
     where
         R: Rule<K>,
-        ensures outcome { IfOk result (λ o. o ≡ outcome_of (line_key K.Spelled.reads (option_map (λ x. x.now) line.entry))) }
-        ensures text { OnOk result (out.new.items ≡ out.old.items ++ answer_text K.Spelled.text (R.Rule.places self.old.rule.now) self.old.seed (line_key K.Spelled.reads (option_map (λ x. x.now) line.entry))) }
-        ensures counts { Kept (R.Rule.places self.old.rule.now) (line_key K.Spelled.reads (option_map (λ x. x.now) line.entry)) self.old.spread self.new.spread }
+        ensures outcome { IfOk result (λ o. o ≡ outcome_of (line_key K.Spelled.reads (option_copied line.entry))) }
+        ensures text { OnOk result (out.new.items ≡ out.old.items
+            ++ answer_text K.Spelled.text (R.Rule.places self.old.rule.now) self.old.seed
+            (line_key K.Spelled.reads (option_copied line.entry))) }
+        ensures counts { Kept (R.Rule.places self.old.rule.now)
+            (line_key K.Spelled.reads (option_copied line.entry)) self.old.spread self.new.spread }
         ensures same { self.new ≡ record self.old { spread = self.new.spread } }
     {
         match self.place::<K>(line) {

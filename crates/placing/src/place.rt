@@ -1,5 +1,5 @@
 // A key read, with its word and its choices.
-ghost use Rattle.std.specs.Option.{option_map};
+ghost use Rattle.std.specs.Option.{option_copied};
 ghost use Rattle.placing.specs.Answers.{line_key};
 ghost use Rattle.placing.specs.Places.{PlacedBy};
 
@@ -21,7 +21,8 @@ impl<R> Placer<'_, R> {
     pub(crate) fn place<K: Spelled>(&self, line: Option<&[u8]>) -> Result<Placed<K>, Refusal>
     where
         R: Rule<K>,
-        ensures { PlacedBy K.Kind.bytes (R.Rule.places self.now.rule.now) self.now.seed (line_key K.Spelled.reads (option_map (λ x. x.now) line.entry)) result }
+        ensures { PlacedBy K.Kind.bytes (R.Rule.places self.now.rule.now) self.now.seed
+            (line_key K.Spelled.reads (option_copied line.entry)) result }
     {
         let key = K::read(line.ok_or(Refusal::BadLine)?)?;
         let word = fnv1a(self.seed, &key);

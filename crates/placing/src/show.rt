@@ -28,7 +28,9 @@ impl fmt::Display for Buckets<'_> {
 impl<K: Spelled> Placed<K> {
     // Appends a line with the text of the key, its word and its choices.
     pub(crate) fn write_line(&self, out: &mut Vec<u8>) -> Result<(), AllocError>
-        ensures { OnOk result (out.new.items ≡ out.old.items ++ (place_text (K.Spelled.text (K.Kind.bytes self.now.key)) self.now.word (listed self.now.choices) ++ codes "\n")) }
+        ensures { OnOk result (out.new.items ≡ out.old.items
+            ++ (place_text (K.Spelled.text (K.Kind.bytes self.now.key)) self.now.word
+            (listed self.now.choices) ++ codes "\n")) }
     {
         let heap = *out.allocator();
         self.key.write(heap, out)?;

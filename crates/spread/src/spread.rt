@@ -7,7 +7,8 @@ mod reports;
 
 pub use reports::Summary;
 
-// How many keys chose each bucket, of at most 512.
+// How many keys chose each bucket. The counts of the 512 buckets at most lie in the value itself,
+// so a spread cannot run out of memory.
 #[derive(Drop)]
 pub struct Spread {
     counts: ArrayVec<u64, 512>,

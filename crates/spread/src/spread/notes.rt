@@ -10,7 +10,8 @@ use places::{Choices, Rule};
 
 // One key more for the bucket, if there is one.
 fn note_bucket(counts: &mut ArrayVec<u64, 512>, bucket: usize)
-    ensures { counts.new.items ≡ slice_set counts.old.items bucket (more (slice_index counts.old.items bucket)) }
+    ensures { counts.new.items
+        ≡ slice_set counts.old.items bucket (more (slice_index counts.old.items bucket)) }
 {
     if let Some(count) = counts.get_mut(bucket) {
         *count = count.saturating_add(1);
