@@ -2,8 +2,8 @@
 use Rattle.std.specs.Prelude.{Ok, Err, Result}
 use Rattle.seating.specs.Layouts.{Key}
 use Rattle.keys.specs.declared.refusal.Refusal.{Refusal}
-use Rattle.placing.specs.declared.answer.Outcome.{Outcome}
-use Rattle.placing.specs.declared.answer.Outcome.TheVariants.{Placed, Refused}
+use Rattle.placing.specs.declared.placer.Outcome.{Outcome}
+use Rattle.placing.specs.declared.placer.Outcome.TheVariants.{Placed, Refused}
 
 -- what a line says decides
 abbrev pub outcome_of : Result Key Refusal → Outcome

@@ -2,7 +2,7 @@ use Rattle.std.proofs.Common.{take}
 use Rattle.std.specs.Fmt.{HasWritten, IsPlainFormatter}
 use Rattle.std.specs.List.{flat_map}
 use Rattle.placing.specs.Shown.{spaced}
-use Rattle.placing.proofs.show.BucketsDisplay.fmt.Given as goal
+use Rattle.placing.proofs.placed.BucketsDisplay.fmt.Given as goal
 
 -- the buckets so far are written
 abbrev pub invariant-loop-bucket : goal.invariant-loop-bucket

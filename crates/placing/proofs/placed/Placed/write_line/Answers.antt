@@ -2,7 +2,7 @@ use Rattle.std.proofs.Common.{arith}
 use Rattle.std.proofs.lemmas.Result.{on_ok_weaker}
 use Rattle.placing.proofs.Hex.{padded_hex}
 use Rattle.placing.proofs.Shown.{on_ok_alike, place_line}
-use Rattle.placing.proofs.place.Placed.write_line.Goals as goal
+use Rattle.placing.proofs.placed.Placed.write_line.Goals as goal
 
 pub returns : goal.returns
 returns g c =

@@ -1,14 +1,22 @@
-// What is printed of a key: its text, its word and its choices.
+// A key with its word and its choices, and the line that is printed of it.
 ghost use Rattle.std.specs.Prelude.{◌≡◌, ◌++◌, Some, OnOk, codes};
 ghost use Rattle.std.specs.List.{flat_map};
 ghost use Rattle.places.specs.Choices.{listed};
 ghost use Rattle.placing.specs.Shown.{hex_text, spaced, place_text};
 
-use crate::place::Placed;
+use places::Choices;
 use std::alloc::AllocError;
 use std::fmt;
 use std::io::Write;
 use text::Spelled;
+
+// A key, its word and the buckets that it chooses.
+#[derive(Clone, Copy, Debug, PartialEq, Eq)]
+pub(crate) struct Placed<K> {
+    pub(crate) key: K,
+    pub(crate) word: u32,
+    pub(crate) choices: Choices,
+}
 
 // The buckets that a key chooses, each behind a space.
 #[derive(Clone, Copy)]
