@@ -7,7 +7,6 @@ ghost use Rattle.placing.specs.Shown.{hex_text, spaced, place_text};
 use places::Choices;
 use std::alloc::AllocError;
 use std::fmt;
-use std::io::Write;
 use text::Spelled;
 
 // A key, its word and the buckets that it chooses.
@@ -44,6 +43,7 @@ impl<K: Spelled> Placed<K> {
         self.key.write(heap, out)?;
         let word = self.word;
         let buckets = Buckets(self.choices.as_slice());
-        writeln!(out, " 0x{word:08x}{buckets}").map_err(|_| AllocError)
+        let text = format!(in heap; " 0x{word:08x}{buckets}\n")?;
+        out.extend_from_slice(text.as_bytes())
     }
 }

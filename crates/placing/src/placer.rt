@@ -10,7 +10,6 @@ use keys::{Kind, Refusal};
 use places::{Rule, fnv1a};
 use spread::Spread;
 use std::alloc::AllocError;
-use std::io::Write;
 use text::Spelled;
 
 // What became of a line.
@@ -77,7 +76,8 @@ impl<'a, R> Placer<'a, R> {
                 Ok(Outcome::Placed)
             }
             Err(refusal) => {
-                writeln!(out, "{refusal}").map_err(|_| AllocError)?;
+                let text = format!(in *out.allocator(); "{refusal}\n")?;
+                out.extend_from_slice(text.as_bytes())?;
                 Ok(Outcome::Refused)
             }
         }
