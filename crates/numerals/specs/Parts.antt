@@ -1,24 +1,19 @@
 -- Numbers that stand in a text one after another, each up to a mark.
-use Rattle.std.specs.Prelude.{ℕ, suc, ◌+◌, cond, List, [], ◌∷◌, length, take, drop, Some, None, Option, ◌==◌, nat_lt}
+use Rattle.std.specs.Prelude.{ℕ, ◌+◌, List, take, drop, Some, None, Option, ◌==◌, nat_lt, if◌then◌else◌, position}
+use Rattle.std.specs.Option.{option_and_then}
 use Rattle.numerals.specs.Numbers.{number}
 
 -- go on with what was read, if anything was
 abbrev pub and_then : {A B : Type 0} → Option A → (A → Option B) → Option B
-and_then None f = None
-and_then (Some x) f = f x
-
--- how many bytes stand before the first mark
-abbrev pub before : ℕ → List ℕ → ℕ
-before mark [] = 0
-before mark (b ∷ bs) = cond (b == mark) 0 (suc (before mark bs))
+and_then o f = option_and_then f o
 
 -- the number that s writes, if it is below the limit
 abbrev pub below : ℕ → List ℕ → Option ℕ
-below limit s = and_then (number s) (λ n. cond (nat_lt n limit) (Some n) None)
+below limit s = and_then (number s) (λ n. if nat_lt n limit then Some n else None)
 
 -- the number below the limit that stands before the first mark, and what stands behind the mark
 abbrev pub part : ℕ → ℕ → List ℕ → Option (ℕ × List ℕ)
 part limit mark s =
-    cond (nat_lt (before mark s) (length s))
-    (and_then (below limit (take (before mark s) s)) (λ n. Some (n, drop (before mark s + 1) s)))
-    None
+    and_then (position (λ b. b == mark) s) (λ i.
+    and_then (below limit (take i s)) (λ n.
+    Some (n, drop (i + 1) s)))
