@@ -6,4 +6,4 @@ pub mod numbers;
 pub mod parts;
 
 pub use numbers::read_number;
-pub use parts::{bounded, cut};
+pub use parts::{bounded, cut, split_once};
