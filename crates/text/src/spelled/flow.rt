@@ -26,10 +26,7 @@ impl Spelled for Flow {
     ghost exact = { λ s k e. (flows_exact_lem s k (some_from_ok (flow_from s) k e)).1 };
 
     fn read(s: &[u8]) -> Result<Flow, Refusal> {
-        match read_flow(s) {
-            Some(flow) => Ok(flow),
-            None => Err(Refusal::BadLine),
-        }
+        read_flow(s).ok_or(Refusal::BadLine)
     }
 
     fn write(&self, heap: Global, out: &mut Vec<u8>) -> Result<(), AllocError> {
