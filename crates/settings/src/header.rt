@@ -6,7 +6,7 @@ ghost use Rattle.settings.specs.Headers.{rule_word_lem, kind_word_lem, header_of
 use numerals::cut;
 use rules::RuleName;
 
-#[derive(Clone, Copy)]
+#[derive(Clone, Copy, Debug, PartialEq, Eq)]
 pub enum KindName {
     Flow,
     Name,
@@ -39,12 +39,10 @@ fn rule_word<'a>(s: &'a [u8]) -> Option<(RuleName, &'a [u8])>
 fn kind_word(s: &[u8]) -> Option<KindName>
     ensures { result ≡ kind_word_lem s.now }
 {
-    if s == b"flow".as_slice() {
-        Some(KindName::Flow)
-    } else if s == b"name".as_slice() {
-        Some(KindName::Name)
-    } else {
-        None
+    match s {
+        b"flow" => Some(KindName::Flow),
+        b"name" => Some(KindName::Name),
+        _ => None,
     }
 }
 

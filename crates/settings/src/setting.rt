@@ -18,11 +18,9 @@ pub struct Setting {
 fn made_of(header: Header) -> Result<Setting, Refusal>
     ensures { MadeUnder (HeaderSize header) (Asked header) result }
 {
-    if header.seed > 0xffff_ffff {
-        return Err(Refusal::Size);
-    }
-    let seed = header.seed as u32;
-    let rule = Builtin::new(header.rule, header.buckets as usize, seed)?;
+    let seed = u32::try_from(header.seed).map_err(|_| Refusal::Size)?;
+    let buckets = usize::try_from(header.buckets).map_err(|_| Refusal::Size)?;
+    let rule = Builtin::new(header.rule, buckets, seed)?;
     Ok(Setting {
         rule,
         seed,
@@ -34,11 +32,5 @@ fn made_of(header: Header) -> Result<Setting, Refusal>
 pub fn read_setting(line: Option<&[u8]>) -> Result<Setting, Refusal>
     ensures { SettingOf (option_map (λ x. x.now) line.entry) result }
 {
-    let Some(text) = line else {
-        return Err(Refusal::BadLine);
-    };
-    let Some(header) = read_header(text) else {
-        return Err(Refusal::BadLine);
-    };
-    made_of(header)
+    made_of(line.and_then(read_header).ok_or(Refusal::BadLine)?)
 }
