@@ -1,5 +1,6 @@
 -- The first line: `RULE n z KIND`.
-use Rattle.std.specs.Prelude.{ℕ, ◌+◌, ◌^◌, Bool, true, cond, ◌&&◌, List, [], ◌∷◌, length, drop, Some, None, codes, Option, ◌==◌, nat_le, slice_index}
+use Rattle.std.specs.Prelude.{ℕ, ◌^◌, cond, List, drop, Some, None, codes, Option, nat_eq}
+use Rattle.std.specs.List.{starts_with}
 use Rattle.std.specs.Str.{bytes_eq}
 use Rattle.rules.specs.declared.builtin.RuleName.{RuleName}
 use Rattle.rules.specs.declared.builtin.RuleName.TheVariants.{Two, Dig2, Dig3, Xor}
@@ -8,22 +9,13 @@ use Rattle.settings.specs.declared.header.Header.{Header}
 use Rattle.settings.specs.declared.header.KindName.{KindName}
 use Rattle.settings.specs.declared.header.KindName.TheVariants.{Flow, Name}
 
--- the bytes w stand in s from place i on
-abbrev pub stands : List ℕ → ℕ → List ℕ → Bool
-stands [] i s = true
-stands (b ∷ bs) i s = slice_index s i == b && stands bs (i + 1) s
-
--- s begins with w
-abbrev pub begins : List ℕ → List ℕ → Bool
-begins w s = nat_le (length w) (length s) && stands w 0 s
-
 -- the rule whose name stands in front, and what stands behind the space
 abbrev pub rule_word_lem : List ℕ → Option (RuleName × List ℕ)
 rule_word_lem s =
-    cond (begins (codes "two ") s) (Some (Two, drop 4 s))
-    (cond (begins (codes "dig2 ") s) (Some (Dig2, drop 5 s))
-    (cond (begins (codes "dig3 ") s) (Some (Dig3, drop 5 s))
-    (cond (begins (codes "xor ") s) (Some (Xor, drop 4 s)) None)))
+    cond (starts_with nat_eq s (codes "two ")) (Some (Two, drop 4 s))
+    (cond (starts_with nat_eq s (codes "dig2 ")) (Some (Dig2, drop 5 s))
+    (cond (starts_with nat_eq s (codes "dig3 ")) (Some (Dig3, drop 5 s))
+    (cond (starts_with nat_eq s (codes "xor ")) (Some (Xor, drop 4 s)) None)))
 
 abbrev pub kind_word_lem : List ℕ → Option KindName
 kind_word_lem s = cond (bytes_eq s (codes "flow")) (Some Flow) (cond (bytes_eq s (codes "name")) (Some Name) None)
