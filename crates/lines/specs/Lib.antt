@@ -1,3 +1,3 @@
 pub mod Lines
-pub mod Pieces
 pub mod Said
+pub mod Pieces

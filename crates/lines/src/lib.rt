@@ -1,73 +1,66 @@
 // Lines of input of at most 128 bytes, read piece by piece with bounded memory.
 #![tactic(auto)]
 
-ghost use Rattle.std.specs.Prelude.{◌≡◌, ℕ, List, ◌++◌, IfSome, IfOk};
-ghost use Rattle.lines.specs.Lines.{line_text, until_feed};
-ghost use Rattle.lines.specs.Pieces.{piece_of};
-ghost use Rattle.lines.specs.Said.{said, SaysLine};
+ghost use Rattle.std.specs.Prelude.{◌≡◌, ◌==◌, position, IfSome, IfOk};
+ghost use Rattle.lines.specs.Said.{SaysLine, ReadsLine};
+ghost use Rattle.lines.specs.Pieces.{Takes};
 
 use std::io;
-use std::io::BufRead;
+use std::io::{BufRead, ErrorKind};
 
 mod line;
 
 pub use line::Line;
 
-// What a piece of input does to the line that is read.
-#[derive(Clone, Copy)]
+// What a piece of input is to the line that is read.
+#[derive(Clone, Copy, Debug, PartialEq, Eq)]
 enum Piece {
-    // the input is at its end
+    // none: the input is at its end
     End,
-    // the line is complete, and so many bytes of the piece are used
-    Done(usize),
-    // the line goes on behind the piece, which has so many bytes
-    More(usize),
+    // the line's last
+    Last,
+    // the line goes on behind it
+    More,
 }
 
-// Takes the bytes of the piece up to its first line feed into the line.
-fn take_piece(line: &mut Line, piece: &[u8]) -> Piece
-    ensures value { result ≡ piece_of piece.now }
-    ensures after { (bs : List ℕ) → said line.old ≡ line_text bs → said line.new ≡ line_text (bs ++ until_feed piece.now) }
+// Where the first line feed stands.
+fn find_feed(piece: &[u8]) -> Option<usize>
+    ensures { result ≡ position (λ b. b == 10) piece.now }
 {
+    piece.iter().position(|b| *b == b'\n')
+}
+
+// Takes the next piece of the input into the line, up to its first line feed.
+fn take_piece<R: BufRead>(from: &mut R, line: &mut Line) -> io::Result<Piece>
+    ensures { IfOk result (λ p. Takes p (R.remaining from.old) (R.remaining from.new) line.old line.new) }
+{
+    let piece = from.fill_buf()?;
     if piece.is_empty() {
-        return Piece::End;
+        return Ok(Piece::End);
     }
-    for (i, b) in piece.iter().enumerate() {
-        if *b == b'\n' {
-            return Piece::Done(i + 1);
-        }
-        line.push(*b);
-    }
-    Piece::More(piece.len())
+    let Some(at) = find_feed(piece) else {
+        let all = piece.len();
+        line.extend(piece);
+        from.consume(all);
+        return Ok(Piece::More);
+    };
+    line.extend(&piece[..at]);
+    from.consume(at + 1);
+    Ok(Piece::Last)
 }
 
 // The next line of the input, or nothing at its end. The last line may lack its line feed.
 pub fn next_line<R: BufRead>(from: &mut R) -> io::Result<Option<Line>>
-    ensures { IfOk result (λ o. IfSome o SaysLine) }
+    ensures says { IfOk result (λ o. IfSome o SaysLine) }
+    ensures reads { IfOk result (λ o. ReadsLine (R.remaining from.old) o (R.remaining from.new)) }
 {
     let mut line = Line::new();
-    let mut some = false;
-    for _ in 0..u64::MAX {
-        let piece = {
-            let bytes = from.fill_buf()?;
-            take_piece(&mut line, bytes)
-        };
-        match piece {
-            Piece::End => {
-                if some {
-                    return Ok(Some(line));
-                }
-                return Ok(None);
-            }
-            Piece::Done(n) => {
-                from.consume(n);
-                return Ok(Some(line));
-            }
-            Piece::More(n) => {
-                from.consume(n);
-                some = true;
-            }
+    for taken in 0..u64::MAX {
+        match take_piece(from, &mut line)? {
+            Piece::More => {}
+            Piece::Last => return Ok(Some(line)),
+            Piece::End => return Ok((taken > 0).then_some(line)),
         }
     }
-    Ok(None)
+    Err(ErrorKind::Other.into())
 }

@@ -1,14 +1,42 @@
 // A line of input, with bounded memory.
-ghost use Rattle.std.specs.Prelude.{◌≡◌, ◌≤◌, length};
+ghost use Rattle.std.specs.Prelude.{◌≡◌, ℕ, List, [], ◌++◌};
+ghost use Rattle.std.specs.Option.{option_map};
+ghost use Rattle.lines.specs.Lines.{line_text};
+ghost use Rattle.lines.specs.Said.{said};
 
-mod reads;
+use arrayvec::ArrayVec;
 
-// The bytes so far of a line that is being read, or that it has more than 128.
+// The bytes so far of a line that is being read, or nothing once it has more than 128.
 #[derive(Drop)]
 pub struct Line {
-    bytes: [u8; 128],
-    len: usize,
-    long: bool,
-    ghost whole: { length bytes ≡ 128 },
-    ghost within: { len ≤ 128 },
+    text: Option<ArrayVec<u8, 128>>,
+}
+
+impl Line {
+    // A line with no byte yet.
+    pub(crate) fn new() -> Line
+        ensures { said result ≡ line_text [] }
+    {
+        Line {
+            text: Some(ArrayVec::new()),
+        }
+    }
+
+    // These bytes more.
+    pub(crate) fn extend(&mut self, bytes: &[u8])
+        ensures { (bs : List ℕ) → said self.old ≡ line_text bs → said self.new ≡ line_text (bs ++ bytes.now) }
+    {
+        if let Some(text) = &mut self.text {
+            if text.try_extend_from_slice(bytes).is_err() {
+                self.text = None;
+            }
+        }
+    }
+
+    // The bytes of the line, or nothing where it has more than 128.
+    pub fn get(&self) -> Option<&[u8]>
+        ensures { option_map (λ x. x.now) result ≡ said self.now }
+    {
+        self.text.as_ref().map(|text| text.as_slice())
+    }
 }

@@ -1,16 +1,23 @@
-use Rattle.std.proofs.Common.{ℕ, List, ◌++◌}
-use Rattle.lines.specs.Lines.{until_feed}
-use Rattle.lines.proofs.Feeds.{feedless_more}
+use Rattle.std.proofs.Common.{◌++◌, length-append, arith}
+use Rattle.lines.proofs.Known.{taken_more, reads_feed, reads_at_end}
 use Rattle.lines.proofs.next_line.Goals as goal
 
-pub returns-in-Done : goal.returns-in-Done
-returns-in-Done g c =
-    let bs : List ℕ = c.loop.invariant.0 in
-    let s : List ℕ = c.in_ok-bytes.bytes.now in
-    (bs ++ until_feed s, feedless_more bs s c.loop.invariant.1, c.take_piece-piece.ensures.after bs c.loop.invariant.2)
+pub returns-in-Last : goal.returns-in-Last
+returns-in-Last g c =
+    let (done, t, most, none) = c.loop-taken.invariant in
+    let (bs, grows, consumed) = rw c.in-Last.is at c.in_ok-take_piece.ensures in
+    let reads = reads_feed _ _ _ _ _ done bs t grows consumed in
+    record { says = reads.0; reads = reads.1 }
 
-pub loop-preserved : goal.loop-preserved
-loop-preserved g c =
-    let bs : List ℕ = c.loop.invariant.0 in
-    let s : List ℕ = c.in_ok-bytes.bytes.now in
-    (bs ++ until_feed s, feedless_more bs s c.loop.invariant.1, c.take_piece-piece.ensures.after bs c.loop.invariant.2)
+pub returns-in-End : goal.returns-in-End
+returns-in-End g c =
+    let (done, t, most, none) = c.loop-taken.invariant in
+    let e = rw c.in-End.is at c.in_ok-take_piece.ensures in
+    let reads = reads_at_end _ _ _ _ _ done c.loop-taken.taken c.then_some.result t e.0 e.1 e.2 most none c.then_some.ensures in
+    record { says = reads.0; reads = reads.1 }
+
+pub loop-taken-preserved : goal.loop-taken-preserved
+loop-taken-preserved g c =
+    let (done, t, most, none) = c.loop-taken.invariant in
+    let (bs, grows, consumed, some) = rw c.in-More.is at c.in_ok-take_piece.ensures in
+    (done ++ bs, taken_more _ _ _ _ _ done bs t grows consumed, omega (arith, length-append done bs), λ z. absurd (omega arith))
