@@ -8,8 +8,10 @@ ghost use Rattle.lines.specs.Pieces.{Takes};
 use std::io;
 use std::io::{BufRead, ErrorKind};
 
+mod each;
 mod line;
 
+pub use each::Lines;
 pub use line::Line;
 
 // What a piece of input is to the line that is read.
