@@ -7,7 +7,7 @@ use Rattle.search.specs.Searches.{Spread, Toward, Between, Level, Nowhere, Exhau
 use Rattle.search.proofs.Breadth.{same_source}
 use Rattle.search.proofs.Rooting.{HeldIn, level_any, near_as, near_back}
 use Rattle.search.proofs.Spreading.{stays_seen, grew_as}
-use Rattle.seating.specs.Layouts.{bucket_slots, slots}
+use Rattle.seating.specs.Layouts.{bucket_slots, slots, Stash}
 use Rattle.seating.specs.Slots.{Occupied}
 
 -- a search that found nothing leaves a closed set
@@ -26,7 +26,7 @@ module _ (h : Scene) (a b : ℕ) (q r : Queue) (s : Closed h q) (w : Spread h.sl
     (λ x. let (p, l, e) = s.sound.listed i x in (p, omega arith, w.grew.same_slot p l ∙ e)),
   )
 
-  pub flood_begun : a ≡ bucket_slots h.layout → b ≡ slots h.layout → ((i : ℕ) → Between a b i → Occupied h.slots i)
+  pub flood_begun : a ≡ bucket_slots h.layout → b ≡ slots h.layout → ((i : ℕ) → Stash h.layout i → Occupied h.slots i)
       → Flooding h (Before r (q.tail + 1)) r (q.tail + 1)
   flood_begun ea eb filled = record {
     sound = w.grew.sound;
@@ -34,7 +34,7 @@ module _ (h : Scene) (a b : ℕ) (q r : Queue) (s : Closed h q) (w : Spread h.sl
       | inl o ↦ inl (rw (w.grew.same_slot p o, w.grew.same_link p o, same_source q r w.grew (link q p) (omega (arith, s.sound.back p o))) (old p o (link q p) refl))
       | inr o ↦ (let t = w.grew.among p o g in inr (omega (arith, t.1.0.0), omega (arith, t.1.0.1)))
     ];
-    stash = λ i x. (let z : Between a b i = (omega (arith, x.0), omega (arith, x.1)) in w.all 0 i (refl, (z, filled i z)));
+    stash = λ i x. (let z : Between a b i = (omega (arith, x.0), omega (arith, x.1)) in w.all 0 i (refl, (z, filled i x)));
     closed = λ m i g n. done m i g n;
   }
     where

@@ -1,5 +1,5 @@
 -- One slot more in a queue.
-use Rattle.std.proofs.Common.{◌≡◌, ℕ, ◌+◌, ◌^◌, ◌<◌, ◌≤◌, ◌≢◌, ◌⊎◌, List, length, get_or, set, sum, sym, ap, ◌∙◌, inl, inr, arith}
+use Rattle.std.proofs.Common.{◌≡◌, ℕ, ◌+◌, ◌^◌, ◌<◌, ◌≤◌, ◌≢◌, ◌⊎◌, List, length, get_or, set, sum, sym, ap, subst, ◌∙◌, inl, inr, arith}
 use Rattle.std.proofs.lemmas.List.{get_or-set_same, get_or-set_other, length-set}
 use Rattle.std.proofs.lemmas.List.Sums.{sum_by-set}
 use Rattle.std.proofs.ByRecursion.{sum_by_le, All-from_get_or}
@@ -123,3 +123,17 @@ none_seen s a f small ea ef none = record {
   apart = λ p r g k e. absurd (omega arith);
   back = λ p g. absurd (omega arith);
 }
+
+-- the same of a queue that is seen as v
+module _ (q v : Queue) (l i : ℕ) (e : q ≡ v) (s : Tidy q) (low : i < length v.seen) (new : get_or q.seen i 0 ≡ 0) (le : l ≤ v.tail) where
+  here : i < length q.seen
+  here = omega (arith, ap (λ (q : Queue). length q.seen) e)
+
+  back : l ≤ q.tail
+  back = omega (arith, ap (λ (q : Queue). q.tail) e)
+
+  pub room_for : (q.tail < length q.seen) × (l < length q.seen)
+  room_for = let r = room q s l i here new back in (r, omega (arith, r, back))
+
+  pub offered_for : Offered l i v (queue (set q.seen i 1) (set q.at q.tail i) (set q.from q.tail l) (q.tail + 1))
+  offered_for = subst (λ v. Offered l i v (queue (set q.seen i 1) (set q.at q.tail i) (set q.from q.tail l) (q.tail + 1))) e (offered_new q s l i here new back)

@@ -7,7 +7,7 @@ use Rattle.search.specs.Scenes.Way.{last, next}
 use Rattle.search.specs.Searches.{Spread, Struck, Toward, Between, Level, Trail, Found, Exhausted, Reach, Reached, Nowhere, Roots}
 use Rattle.search.proofs.Breadth.{begun, found, exhausted, one_level}
 use Rattle.search.proofs.Bridging.{same_holder}
-use Rattle.search.proofs.Spreading.{spread_as, spread_then, spread_one, struck_as}
+use Rattle.search.proofs.Spreading.{spread_none, spread_as, spread_then, spread_one, struck_as}
 use Rattle.search.proofs.Walking.{trail_root}
 use Rattle.seating.specs.Layouts.{Key, Value, Content, Candidate}
 use Rattle.seating.specs.Layouts.Content.{vacant, holding}
@@ -113,6 +113,16 @@ module _ (h : Scene) (q : Queue) (l p : ℕ) (is : l ≡ suc p) (k : Key) (v : V
       let n : Near h Nowhere (suc (slot q p)) i = subst (λ x. Near h Nowhere (source q x) i) (z ∙ is) t.2 in
       (z, subst (λ x. Candidate h.layout x i) (same_holder _ _ _ _ _ n.2 here) n.3)
 
+-- the key of no entry has no candidates
+pub entry_vacant : (h : Scene) (q : Queue) (l p : ℕ) → l ≡ suc p → Tidy q → at h.slots (slot q p) ≡ vacant → Spread h.slots (Level h Nowhere q l (l + 1)) q q
+entry_vacant h q l p is tidy here = spread_none h.slots q tidy none
+  where
+    none : (m i : ℕ) → Level h Nowhere q l (l + 1) m i → ⊥
+    none m i t =
+        let z : m ≡ l = omega (arith, t.0, t.1) in
+        let n : Near h Nowhere (suc (slot q p)) i = subst (λ x. Near h Nowhere (source q x) i) (z ∙ is) t.2 in
+        not_both _ n.0 n.1 here n.2
+
 -- a level below the roots
 module _ (h : Scene) (R : ℕ → Type 0) (q r : Queue) (a : ℕ) (b : Reached h R q a) (some : 1 ≤ a) where
   any : Spread h.slots (Level h Nowhere q a (q.tail + 1)) q r → Spread h.slots (Level h R q a (q.tail + 1)) q r
@@ -131,10 +141,10 @@ module _ (h : Scene) (R : ℕ → Type 0) (q r : Queue) (a : ℕ) (b : Reached h
 abbrev pub HeldIn : List Content → ℕ → ℕ → ℕ → Type 0
 HeldIn xs a b i = Between a b i × Occupied xs i
 
-module _ (xs : List Content) (a i : ℕ) (le : a ≤ i) (q r : Queue) (tidy : Tidy q) (before : Spread xs (Toward 0 (HeldIn xs a i)) q r) where
+module _ (xs : List Content) (a i : ℕ) (le : a ≤ i) (q r : Queue) (before : Spread xs (Toward 0 (HeldIn xs a i)) q r) where
   pub held_more : (s : Queue) → Offered 0 i r s → (at xs i ≡ vacant → ⊥) → Spread xs (Toward 0 (HeldIn xs a (i + 1))) q s
   held_more s o full =
-      spread_then xs q r s tidy before
+      spread_then xs q r s before
       (λ m j t. elim t [ inl x ↦ (x.0, ((x.1.0.0, omega (arith, x.1.0.1)), x.1.1)) | inr x ↦ (x.0, ((omega (arith, x.1), omega (arith, x.1)), rw x.1 (occupied xs i full))) ])
       (λ m j t. elim (cases_lt j i) [ inl l ↦ inl (t.0, ((t.1.0.0, l), t.1.1)) | inr l ↦ inr (t.0, omega (arith, t.1.0.1)) ])
       (spread_one xs 0 i r s o (λ _. full))

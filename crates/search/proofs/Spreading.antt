@@ -28,7 +28,7 @@ spread_none xs q s none = record {
   all = λ m i t. absurd (none m i t);
 }
 
-module _ {T U V : ℕ → ℕ → Type 0} (xs : List Content) (q r s : Queue) (sound : Tidy q) (first : Spread xs T q r)
+module _ {T U V : ℕ → ℕ → Type 0} (xs : List Content) (q r s : Queue) (first : Spread xs T q r)
     (into : (m i : ℕ) → T m i ⊎ U m i → V m i) where
   grew_then : Grew U r s → Grew V q s
   grew_then w = record {

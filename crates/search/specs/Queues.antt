@@ -52,3 +52,8 @@ pub record Offered (l i : ℕ) (q r : Queue) : Type 0 where
   pub grew : Grew (λ m j. (m ≡ l) × (j ≡ i)) q r
   pub one : r.tail ≤ q.tail + 1
   pub all : Seen r i
+
+-- a tidy queue with no entry
+pub record Fresh (q : Queue) : Type 0 where
+  pub tidy : Tidy q
+  pub none : q.tail ≡ 0

@@ -1,4 +1,5 @@
 mod Parts
+mod Ranges
 mod Marking
 mod Stashing
 mod Looking

@@ -1,13 +1,11 @@
 -- Looks at some slots and then at others.
-use Rattle.std.proofs.Common.{◌≡◌, ℕ, zero, suc, ◌+◌, ◌-◌, ◌<◌, ◌≤◌, Bool, false, List, [], ◌∷◌, ◌++◌, length, get_or, take, drop, Some, None, Decides, Option, sym, refl, ap, ◌∙◌, inl, inr, append_assoc, append-nil, arith, take-append-drop, MatchOption}
+use Rattle.std.proofs.Common.{◌≡◌, ℕ, ◌+◌, ◌-◌, ◌<◌, ◌≤◌, Bool, true, false, List, [], ◌∷◌, ◌++◌, length, get_or, take, drop, is_some, Some, None, Decides, Option, sym, refl, ap, ◌∙◌, inl, inr, append-nil, arith, take-append-drop, MatchOption}
 use mathlib.Core.List.Memᴰ
 use mathlib.Core.List.{Memᴰ}
 use Rattle.std.specs.List.{range_with_len, flat_map}
 use Rattle.std.proofs.lemmas.List.{take_more}
 use Rattle.std.proofs.lemmas.Bool.{both_ways}
-use Rattle.places.specs.Choices.{listed}
-use Rattle.places.specs.declared.choices.Choices.{Choices}
-use Rattle.places.specs.declared.choices.Choices.TheVariants.{One, Two, Three}
+use Rattle.std.proofs.lemmas.Grind.{flat_map-append}
 use Rattle.seating.specs.Layouts.{Key, Value, Content}
 use Rattle.seating.specs.Layouts.Content.{holding}
 use Rattle.seating.specs.Lookups.{looked, look_in}
@@ -16,7 +14,8 @@ use Rattle.seating.proofs.Looking.{in_front, in_back, looks_few as few}
 use Rattle.seating.proofs.Values.{has_or_not}
 use Rattle.table.specs.Looks.{Looks}
 use Rattle.table.specs.declared.looks.Hit.{Hit}
-use Rattle.table.specs.declared.looks.Look.{Look}
+use Rattle.table.proofs.Ranges.{counting_split, one_more}
+use Rattle.table.specs.declared.Looked.{Looked}
 
 look_through : (xs : List Content) (k : Key) (is js : List ℕ) → (look_in xs k is).0 ≡ None
     → ((look_in xs k (is ++ js)).0 ≡ (look_in xs k js).0) × ((look_in xs k (is ++ js)).1 ≡ (look_in xs k is).1 + (look_in xs k js).1)
@@ -43,33 +42,44 @@ cases_as None f g c = f c
 cases_as (Some x) f g c = g x c
 
 -- nothing looked at, and nothing found
-abbrev pub unfound : ℕ → Look
-unfound n = record { hit = None; looks = n }
+abbrev pub unfound : ℕ → Looked Hit
+unfound n = record { found = None; looks = n }
 
 pub looks_none : (xs : List Content) (k : Key) → Looks xs k [] (unfound 0)
 looks_none xs k = record { value = refl; count = refl; slot = λ i m. absurd (Memᴰ.not-nil m) }
 
 -- some slots in vain, then others
-pub looks_then : (xs : List Content) (k : Key) (is js : List ℕ) (n : ℕ) (t : Look) → Looks xs k is (unfound n) → Looks xs k js t
-    → Looks xs k (is ++ js) (record { hit = t.hit; looks = n + t.looks })
+pub looks_then : (xs : List Content) (k : Key) (is js : List ℕ) (n : ℕ) (t : Looked Hit) → Looks xs k is (unfound n) → Looks xs k js t
+    → Looks xs k (is ++ js) (record { found = t.found; looks = n + t.looks })
 looks_then xs k is js n t a b =
     let r = look_through xs k is js a.value in record {
       value = r.0 ∙ b.value;
       count = omega (arith, r.1, a.count, b.count);
-      slot = cases_as t.hit
+      slot = cases_as t.found
           (λ f i m s. elim (Memᴰ.append_cases is m) [ inl q ↦ a.slot i q s | inr q ↦ f i q s ])
           (λ h p. (in_back is js p.0, p.1)) b.slot;
     }
 
 -- what was found is found whatever comes behind
-pub looks_stop : (xs : List Content) (k : Key) (is js : List ℕ) (h : Hit) (n : ℕ) → Looks xs k is (record { hit = Some h; looks = n })
-    → Looks xs k (is ++ js) (record { hit = Some h; looks = n })
-looks_stop xs k is js h n a =
-    let e = look_stops xs k is js h.value a.value in record {
-      value = ap (λ (p : Option Value × ℕ). p.0) e ∙ a.value;
-      count = ap (λ (p : Option Value × ℕ). p.1) e ∙ a.count;
-      slot = (in_front is js a.slot.0, a.slot.1);
-    }
+pub looks_stop : (xs : List Content) (k : Key) (is js : List ℕ) (t : Looked Hit) → is_some t.found ≡ true → Looks xs k is t → Looks xs k (is ++ js) t
+looks_stop xs k is js t = go t.found t.looks
+  where
+    go : (o : Option Hit) (n : ℕ) → is_some o ≡ true → Looks xs k is (record { found = o; looks = n }) → Looks xs k (is ++ js) (record { found = o; looks = n })
+    go None n s a = cc
+    go (Some h) n s a =
+        let e = look_stops xs k is js h.value a.value in record {
+          value = ap (λ (p : Option Value × ℕ). p.0) e ∙ a.value;
+          count = ap (λ (p : Option Value × ℕ). p.1) e ∙ a.count;
+          slot = (in_front is js a.slot.0, a.slot.1);
+        }
+
+pub none_if : {A : Type 0} (o : Option A) → is_some o ≡ false → o ≡ None
+none_if None e = refl
+none_if (Some x) e = cc
+
+-- a search that found nothing
+pub looks_unfound : (xs : List Content) (k : Key) (is : List ℕ) (t : Looked Hit) → is_some t.found ≡ false → Looks xs k is t → Looks xs k is (unfound t.looks)
+looks_unfound xs k is t s l = rw (none_if t.found s) at l
 
 -- one slot
 pub look_miss : (xs : List Content) (k : Key) (i : ℕ) → None ≡ value_at k (at xs i) → Looks xs k (i ∷ []) (unfound 1)
@@ -83,7 +93,7 @@ look_miss xs k i e = record {
 }
 
 pub look_hit : (xs : List Content) (k : Key) (i v : ℕ) → Some v ≡ value_at k (at xs i)
-    → Looks xs k (i ∷ []) (record { hit = Some (record { slot = i; value = v }); looks = 1 })
+    → Looks xs k (i ∷ []) (record { found = Some (record { slot = i; value = v }); looks = 1 })
 look_hit xs k i v e = record {
   value = rw (sym e) refl;
   count = rw (sym e) refl;
@@ -96,28 +106,17 @@ look_hit xs k i v e = record {
   );
 }
 
-counting_split : (m a n : ℕ) → range_with_len a (m + n) ≡ range_with_len a m ++ range_with_len (a + m) n
-counting_split zero a n =
-    let e : 0 + n ≡ n = omega arith in let f : a + 0 ≡ a = omega arith in rw (e, f) refl
-counting_split (suc m) a n =
-    let e : suc m + n ≡ suc (m + n) = omega arith in
-    let f : (a + 1) + m ≡ a + suc m = omega arith in
-    ap (range_with_len a) e ∙ ap (λ (xs : List ℕ). a ∷ xs) (counting_split m (a + 1) n ∙ ap (λ x. range_with_len (a + 1) m ++ range_with_len x n) f)
-
 module _ (xs : List Content) (k : Key) (a j : ℕ) where
-  one_more : range_with_len a j ++ (a + j) ∷ [] ≡ range_with_len a (j + 1)
-  one_more = sym (counting_split j a 1)
-
   pub range_more : None ≡ value_at k (at xs (a + j)) → Looks xs k (range_with_len a j) (unfound j) → Looks xs k (range_with_len a (j + 1)) (unfound (j + 1))
-  range_more e l = rw one_more at (looks_then xs k (range_with_len a j) ((a + j) ∷ []) j (unfound 1) l (look_miss xs k (a + j) e))
+  range_more e l = rw (one_more a j) at (looks_then xs k (range_with_len a j) ((a + j) ∷ []) j (unfound 1) l (look_miss xs k (a + j) e))
 
   pub range_hit : (n v : ℕ) → j < n → Some v ≡ value_at k (at xs (a + j)) → Looks xs k (range_with_len a j) (unfound j)
-      → Looks xs k (range_with_len a n) (record { hit = Some (record { slot = a + j; value = v }); looks = j + 1 })
+      → Looks xs k (range_with_len a n) (record { found = Some (record { slot = a + j; value = v }); looks = j + 1 })
   range_hit n v l e s =
-      let here : Looks xs k (range_with_len a (j + 1)) (record { hit = Some (record { slot = a + j; value = v }); looks = j + 1 }) =
-      rw one_more at (looks_then xs k (range_with_len a j) ((a + j) ∷ []) j _ s (look_hit xs k (a + j) v e)) in
+      let here : Looks xs k (range_with_len a (j + 1)) (record { found = Some (record { slot = a + j; value = v }); looks = j + 1 }) =
+      rw (one_more a j) at (looks_then xs k (range_with_len a j) ((a + j) ∷ []) j _ s (look_hit xs k (a + j) v e)) in
       let m : (j + 1) + (n - (j + 1)) ≡ n = omega arith in
-      rw (sym (counting_split (j + 1) a (n - (j + 1))) ∙ ap (range_with_len a) m) at (looks_stop xs k (range_with_len a (j + 1)) (range_with_len (a + (j + 1)) (n - (j + 1))) _ (j + 1) here)
+      rw (sym (counting_split (j + 1) a (n - (j + 1))) ∙ ap (range_with_len a) m) at (looks_stop xs k (range_with_len a (j + 1)) (range_with_len (a + (j + 1)) (n - (j + 1))) _ refl here)
 
 -- what a slot with a key has for a key
 pub value_same : (x : Content) (h k : Key) (v : Value) → x ≡ holding h v → h ≡ k → Some v ≡ value_at k x
@@ -132,33 +131,20 @@ value_other x h k v b e d f = elim (has_or_not k x) [
   | inr (n, q) ↦ sym q
 ]
 
-joined_append : (f : ℕ → List ℕ) (cs bs : List ℕ) → flat_map f (cs ++ bs) ≡ flat_map f cs ++ flat_map f bs
-joined_append f [] bs = refl
-joined_append f (c ∷ cs) bs = rw (joined_append f cs bs) (sym (append_assoc (f c) (flat_map f cs) (flat_map f bs)))
-
 -- one bucket more
 module _ (xs : List Content) (k : Key) (f : ℕ → List ℕ) (bs : List ℕ) (j n : ℕ) (l : j < length bs) (before : Looks xs k (flat_map f (take j bs)) (unfound n)) where
   one_bucket : flat_map f (take j bs) ++ f (get_or bs j 0) ≡ flat_map f (take (j + 1) bs)
-  one_bucket = sym (ap (flat_map f) (take_more bs j 0 l) ∙ joined_append f (take j bs) (get_or bs j 0 ∷ []) ∙ ap (λ (t : List ℕ). flat_map f (take j bs) ++ t) (append-nil (f (get_or bs j 0))))
+  one_bucket = sym (ap (flat_map f) (take_more bs j 0 l) ∙ flat_map-append f (take j bs) (get_or bs j 0 ∷ []) ∙ ap (λ (t : List ℕ). flat_map f (take j bs) ++ t) (append-nil (f (get_or bs j 0))))
 
-  pub bucket_more : (t : Look) → Looks xs k (f (get_or bs j 0)) t → Looks xs k (flat_map f (take (j + 1) bs)) (record { hit = t.hit; looks = n + t.looks })
+  pub bucket_more : (t : Looked Hit) → Looks xs k (f (get_or bs j 0)) t → Looks xs k (flat_map f (take (j + 1) bs)) (record { found = t.found; looks = n + t.looks })
   bucket_more t s = rw one_bucket at (looks_then xs k (flat_map f (take j bs)) (f (get_or bs j 0)) n t before s)
 
-  pub bucket_hit : (h : Hit) (m : ℕ) → Looks xs k (f (get_or bs j 0)) (record { hit = Some h; looks = m }) → Looks xs k (flat_map f bs) (record { hit = Some h; looks = n + m })
-  bucket_hit h m s =
-      let here = bucket_more (record { hit = Some h; looks = m }) s in
+  pub bucket_hit : (t : Looked Hit) → is_some t.found ≡ true → Looks xs k (f (get_or bs j 0)) t → Looks xs k (flat_map f bs) (record { found = t.found; looks = n + t.looks })
+  bucket_hit t e s =
+      let here = bucket_more t s in
       let whole : flat_map f (take (j + 1) bs) ++ flat_map f (drop (j + 1) bs) ≡ flat_map f bs =
-      sym (joined_append f (take (j + 1) bs) (drop (j + 1) bs)) ∙ ap (flat_map f) (take-append-drop (j + 1) bs) in
-      rw whole at (looks_stop xs k (flat_map f (take (j + 1) bs)) (flat_map f (drop (j + 1) bs)) h (n + m) here)
+      sym (flat_map-append f (take (j + 1) bs) (drop (j + 1) bs)) ∙ ap (flat_map f) (take-append-drop (j + 1) bs) in
+      rw whole at (looks_stop xs k (flat_map f (take (j + 1) bs)) (flat_map f (drop (j + 1) bs)) _ e here)
 
-pub looks_few : (xs : List Content) (k : Key) (is : List ℕ) (t : Look) → Looks xs k is t → t.looks ≤ length is
+pub looks_few : (xs : List Content) (k : Key) (is : List ℕ) (t : Looked Hit) → Looks xs k is t → t.looks ≤ length is
 looks_few xs k is t l = omega (arith, l.count, few xs k is)
-
-pub listed_few : (c : Choices) → length (listed c) ≤ 3
-listed_few (One a) = omega arith
-listed_few (Two a b) = omega arith
-listed_few (Three a b c) = omega arith
-
--- an answer by what it found
-pub hit_as : (xs : List Content) (k : Key) (is : List ℕ) (t : Look) (o : Option Hit) → t.hit ≡ o → Looks xs k is t → Looks xs k is (record { hit = o; looks = t.looks })
-hit_as xs k is t o e l = rw e at l

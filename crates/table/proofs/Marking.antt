@@ -1,19 +1,13 @@
 -- The marked numbers at the front of a list, one more number looked at.
-use Rattle.std.proofs.Common.{◌≡◌, ℕ, zero, suc, ◌+◌, ◌<◌, Bool, true, false, cond, List, [], ◌∷◌, ◌++◌, map, length, get_or, drop, set, filter, sym, refl, ap, ◌∙◌, append-nil, add-one, arith, length-append, drop-cons}
+use Rattle.std.proofs.Common.{◌≡◌, ℕ, suc, ◌+◌, ◌<◌, Bool, true, false, cond, List, [], ◌∷◌, ◌++◌, length, get_or, drop, set, filter, sym, refl, ap, ◌∙◌, append-nil, add-one, arith, length-append, drop-cons}
 use lib.Seq.{set_at, append_snoc}
 use Rattle.std.specs.List.{range_with_len}
-use Rattle.std.proofs.lemmas.List.FromFn.{filter_of_map_range_with_len_more}
+use Rattle.std.proofs.lemmas.List.Elements.{filter-append}
 use Rattle.search.specs.Searches.{marked, marked_below}
-
-counting_map : (a n : ℕ) → map (λ (i : ℕ). i) (range_with_len a n) ≡ range_with_len a n
-counting_map a zero = refl
-counting_map a (suc n) = ap (λ (xs : List ℕ). a ∷ xs) (counting_map (a + 1) n)
+use Rattle.table.proofs.Ranges.{range_end}
 
 marked_more : (marks : List ℕ) (n : ℕ) (b : Bool) → marked marks n ≡ b → marked_below marks (n + 1) ≡ marked_below marks n ++ cond b (n ∷ []) []
-marked_more marks n b e =
-    ap (filter (marked marks)) (sym (counting_map 0 (n + 1)))
-    ∙ filter_of_map_range_with_len_more (marked marks) (λ i. i) 0 n n (omega arith)
-    ∙ rw (counting_map 0 n, e) refl
+marked_more marks n b e = ap (filter (marked marks)) (sym (range_end n)) ∙ filter-append (marked marks) (range_with_len 0 n) (n ∷ []) ∙ rw e refl
 
 abbrev pub Fronted : List ℕ → ℕ → List ℕ → List ℕ → ℕ → Type 0
 Fronted marks n was is r = (r ≡ length (marked_below marks n)) × (is ≡ marked_below marks n ++ drop r was)

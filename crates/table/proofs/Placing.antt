@@ -19,19 +19,19 @@ use Rattle.table.specs.Tables.{lent}
 use Rattle.table.specs.declared.Seated.{Seated}
 use Rattle.table.specs.declared.Seated.TheVariants.{In, Renewed}
 use Rattle.table.specs.declared.looks.Hit.{Hit}
-use Rattle.table.specs.declared.looks.Look.{Look}
+use Rattle.table.specs.declared.Looked.{Looked}
 use Rattle.table.proofs.Promising.{put_promise, drop_promise}
 
 -- what a lookup says of what it hit
 abbrev Told : List Content → Key → List ℕ → Option Hit → Type 0
 Told xs k is o = MatchOption o ((i : ℕ) → Memᴰ i is → Sits xs k i → ⊥) (λ h. Memᴰ h.slot is × (at xs h.slot ≡ holding k h.value))
 
-pub look_found : (L : Layout) → Sized L → (xs : List Content) (k : Key) (r : Look) (h : Hit) → Looks xs k (look_order L k) r → r.hit ≡ Some h → Found L xs k h.slot
+pub look_found : (L : Layout) → Sized L → (xs : List Content) (k : Key) (r : Looked Hit) (h : Hit) → Looks xs k (look_order L k) r → r.found ≡ Some h → Found L xs k h.slot
 look_found L sized xs k r h l e =
     let c : Told xs k (look_order L k) (Some h) = subst (Told xs k (look_order L k)) e l.slot in
     (order_allowed L sized k h.slot c.0, (h.value, c.1))
 
-pub look_missing : (L : Layout) (xs : List Content) (k : Key) (r : Look) → Looks xs k (look_order L k) r → r.hit ≡ None → Missing L xs k
+pub look_missing : (L : Layout) (xs : List Content) (k : Key) (r : Looked Hit) → Looks xs k (look_order L k) r → r.found ≡ None → Missing L xs k
 look_missing L xs k r l e i f =
     let c : Told xs k (look_order L k) None = subst (Told xs k (look_order L k)) e l.slot in
     c i (order_has L k i f.0) f.1
@@ -39,7 +39,7 @@ look_missing L xs k r l e i f =
 module _ (L : Layout) (xs : List Content) (k : Key) (v : Value) (work was : List ℕ) (room : Roomy L (lent work was)) where
   seat_put : (r : Result Seated Refusal) (ys : List Content) (is : List ℕ) → Missing L xs k → SeatDoes L xs k v was r ys is
       → put_done (λ a. PutPromise L xs k v (lent work was) a ys (lent (blank work) is)) r
-  seat_put (Ok (In m s)) ys is miss (w, n, e) = put_promise L xs k v (lent work was) (seated m s) ys (lent (blank work) is) (room, miss, w, n, ap (lent (blank work)) e)
+  seat_put (Ok (In m)) ys is miss (w, n, e) = put_promise L xs k v (lent work was) (seated m.moved m.stashed) ys (lent (blank work) is) (room, miss, w, n, ap (lent (blank work)) e)
   seat_put (Err (Full c)) ys is miss (st, y, n, e) = put_promise L xs k v (lent work was) (full c) ys (lent (blank work) is) (room, miss, st, y, n, ap (lent (blank work)) e)
   seat_put (Ok Renewed) ys is miss d = absurd d
   seat_put (Err Size) ys is miss d = absurd d

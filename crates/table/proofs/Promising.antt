@@ -28,7 +28,8 @@ use Rattle.seating.proofs.Moved.{put_moves_lem, drop_moves_lem}
 use Rattle.seating.proofs.RunLaws.{run_law_lem, outcome_law_lem}
 use Rattle.table.specs.Looks.{Looks}
 use Rattle.table.specs.Promises.{PutShows, PutPromise, DropShows, DropPromise}
-use Rattle.table.specs.declared.looks.Look.{Look}
+use Rattle.table.specs.declared.Looked.{Looked}
+use Rattle.table.specs.declared.looks.Hit.{Hit}
 
 put_shows : (L : Layout) (xs : List Content) (k : Key) (v : Value) (was : Lent) (a : PutAnswer) (ys : List Content) (is : Lent)
     → PutDoes L xs k v was a ys is → Sound L xs → PutShows a xs ys
@@ -72,8 +73,8 @@ pub made_new : (L : Layout) (xs ys : List Content) → MakeDoes L xs made ys →
 made_new L xs ys d = let r = make_sound_lem L xs ys d in rw r.0 (r.1, begun)
 
 -- what a lookup answers
-pub get_answer : (L : Layout) (xs : List Content) (k : Key) (r : Look) → Sized L → Looks xs k (look_order L k) r
-    → (option_map (λ h. h.value) r.hit, r.looks) ≡ lookup L (front L xs) k
+pub get_answer : (L : Layout) (xs : List Content) (k : Key) (r : Looked Hit) → Sized L → Looks xs k (look_order L k) r
+    → (option_map (λ h. h.value) r.found, r.looks) ≡ lookup L (front L xs) k
 get_answer L xs k r sized l = rw (← l.value, ← l.count) (get_front_lem L xs k sized)
 
 -- a slot of the table is a slot of the bank

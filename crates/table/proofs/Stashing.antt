@@ -1,20 +1,29 @@
 -- One more slot counted, and one more slot emptied.
-use Rattle.std.proofs.Common.{◌≡◌, ℕ, zero, suc, ◌+◌, ◌<◌, List, [], ◌∷◌, ◌++◌, length, take, drop, set, replicate, sym, refl, ap, ◌∙◌, add-one, arith, get_or-drop, drop-cons}
+use Rattle.std.proofs.Common.{◌≡◌, ℕ, zero, suc, ◌+◌, ◌-◌, ◌<◌, Bool, true, false, not, cond, filter, get_or, MatchOption, Option, Some, None, List, [], ◌∷◌, ◌++◌, length, take, drop, set, replicate, subst, sym, refl, ap, ◌∙◌, add-one, arith, length-append, get_or-drop, drop-cons}
 use lib.ListN.{length-replicate}
+use Rattle.std.specs.List.{range_with_len, AllWithin, HoldsAt}
+use Rattle.std.proofs.lemmas.List.Elements.{filter-append}
+use Rattle.std.proofs.lemmas.List.FromFn.{length-range_with_len, get_or-range_with_len}
 use lib.Seq.{set_at, append_snoc}
 use Rattle.std.proofs.lemmas.List.{replicate_more}
-use Rattle.seating.specs.Layouts.{Content}
+use Rattle.std.proofs.lemmas.Bool.{both_ways}
+use Rattle.seating.specs.Layouts.{Content, Layout, bucket_slots, Stash}
 use Rattle.seating.specs.Layouts.Content.{vacant, holding}
 use Rattle.seating.specs.Slots.{at, keys}
+use Rattle.table.specs.Shapes.{is_vacant}
+use Rattle.table.proofs.Ranges.{one_more}
+
+pub vacant_if : (c : Content) → is_vacant c ≡ true → c ≡ vacant
+vacant_if vacant e = refl
+vacant_if (holding k v) e = cc
+
+pub held_if : (c : Content) → is_vacant c ≡ false → c ≡ vacant → ⊥
+held_if c f e = let t : is_vacant c ≡ true = rw e refl in both_ways _ f t
 
 -- how many keys a slot holds
 abbrev weight : Content → ℕ
 weight vacant = 0
 weight (holding k v) = 1
-
-weight_one : (c : Content) → (c ≡ vacant → ⊥) → weight c ≡ 1
-weight_one vacant n = absurd (n refl)
-weight_one (holding k v) n = refl
 
 taken_more : (n : ℕ) (xs : List Content) → length (keys (take (suc n) xs)) ≡ length (keys (take n xs)) + weight (at xs n)
 taken_more zero [] = refl
@@ -31,11 +40,34 @@ held_from xs a n = length (keys (take n (drop a xs)))
 held_more : (xs : List Content) (a n : ℕ) → held_from xs a (n + 1) ≡ held_from xs a n + weight (at xs (a + n))
 held_more xs a n = rw (add-one n) (taken_more n (drop a xs) ∙ ap (λ c. held_from xs a n + weight c) (get_or-drop a xs n vacant))
 
-pub held_same : (xs : List Content) (a n : ℕ) → at xs (a + n) ≡ vacant → held_from xs a (n + 1) ≡ held_from xs a n
-held_same xs a n e = omega (arith, held_more xs a n, ap weight e)
+abbrev pub holds : List Content → ℕ → Bool
+holds xs i = not (is_vacant (at xs i))
 
-pub held_too : (xs : List Content) (a n : ℕ) → (at xs (a + n) ≡ vacant → ⊥) → held_from xs a (n + 1) ≡ held_from xs a n + 1
-held_too xs a n e = omega (arith, held_more xs a n, weight_one _ e)
+holds_one : (c : Content) (i : ℕ) → length (cond (not (is_vacant c)) (i ∷ []) []) ≡ weight c
+holds_one vacant i = refl
+holds_one (holding k v) i = refl
+
+-- the held slots of a range, counted
+pub held_count : (xs : List Content) (a n : ℕ) → length (filter (holds xs) (range_with_len a n)) ≡ held_from xs a n
+held_count xs a zero = refl
+held_count xs a (suc n) =
+    let front = range_with_len a n in
+    let e : length (filter (holds xs) (range_with_len a (n + 1))) ≡ length (filter (holds xs) front ++ filter (holds xs) ((a + n) ∷ [])) =
+    ap (λ is. length (filter (holds xs) is)) (sym (one_more a n)) ∙ ap length (filter-append (holds xs) front ((a + n) ∷ [])) in
+    subst (λ m. length (filter (holds xs) (range_with_len a m)) ≡ held_from xs a m) (add-one n)
+    (omega (arith, e, length-append (filter (holds xs) front) (filter (holds xs) ((a + n) ∷ [])), held_count xs a n, held_more xs a n, holds_one (at xs (a + n)) (a + n)))
+
+-- what a search of the stash found first, by the numbers that it went through
+pub first_in : (L : Layout) (xs : List Content) (a n : ℕ) (r : Option ℕ) → a ≡ bucket_slots L → n ≡ L.stash
+    → MatchOption r (AllWithin (λ i. is_vacant (at xs i) ≡ false) (range_with_len a n) 0 (length (range_with_len a n)))
+    (λ x. (is_vacant (at xs x) ≡ true) × (i : ℕ) × (i < length (range_with_len a n)) × HoldsAt (λ y. y ≡ x) (range_with_len a n) i × AllWithin (λ i. is_vacant (at xs i) ≡ false) (range_with_len a n) 0 i)
+    → MatchOption r ((i : ℕ) → Stash L i → at xs i ≡ vacant → ⊥) (λ i. Stash L i × (at xs i ≡ vacant))
+first_in L xs a n None ea en w = λ i s.
+    let e : get_or (range_with_len a n) (i - a) 0 ≡ i = get_or-range_with_len a n (i - a) 0 (omega (arith, s)) ∙ omega (arith, s) in
+    held_if _ (rw e at (w (i - a) 0 (omega arith) (omega (arith, s, length-range_with_len a n))))
+first_in L xs a n (Some x) ea en (e, i, l, h, w) =
+    let is : x ≡ a + i = sym (h 0) ∙ get_or-range_with_len a n i 0 (omega (arith, length-range_with_len a n)) in
+    ((omega arith, omega (arith, length-range_with_len a n)), vacant_if _ e)
 
 -- the slots with the first n empty
 abbrev pub emptied : ℕ → List Content → List Content

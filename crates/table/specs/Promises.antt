@@ -15,7 +15,7 @@ use Rattle.seating.specs.Steps.{Lent, Found, Missing, Pathed, Stowed, Stuck, Put
 use Rattle.seating.specs.Steps.PutAnswer.{seated, renewed, too_short, full}
 use Rattle.seating.specs.Steps.DropAnswer.{dropped, too_short as lentShort, not_held}
 use Rattle.seating.specs.Tables.{Sound}
-use Rattle.table.specs.declared.Out.{Out}
+use Rattle.table.specs.declared.Moves.{Moves}
 use Rattle.table.specs.declared.Seated.{Seated}
 use Rattle.table.specs.declared.Seated.TheVariants.{In, Renewed}
 
@@ -37,7 +37,7 @@ pub record PutPromise (L : Layout) (xs : List Content) (k : Key) (v : Value) (wa
 
 -- the answer of a put, told of P
 abbrev pub put_done : (PutAnswer → Type 0) → Result Seated Refusal → Type 0
-put_done P (Ok (In m s)) = P (seated m s)
+put_done P (Ok (In m)) = P (seated m.moved m.stashed)
 put_done P (Ok Renewed) = P renewed
 put_done P (Err LentShort) = P too_short
 put_done P (Err (Full c)) = P (full c)
@@ -64,8 +64,8 @@ pub record DropPromise (L : Layout) (xs : List Content) (k : Key) (was : List �
   pub law : (h : List Call) → Ran L (fresh L) h (front L xs) → Law L (Holds L Nothing (drop k (length was) ∷ h)) (front L ys)
 
 -- the answer of a drop, told of P
-abbrev pub drop_done : (DropAnswer → Type 0) → Result Out Refusal → Type 0
-drop_done P (Ok o) = P (dropped o.moved o.stashed)
+abbrev pub drop_done : (DropAnswer → Type 0) → Result Moves Refusal → Type 0
+drop_done P (Ok m) = P (dropped m.moved m.stashed)
 drop_done P (Err LentShort) = P lentShort
 drop_done P (Err NotHeld) = P not_held
 drop_done P (Err (Full c)) = ⊥
@@ -78,8 +78,8 @@ drop_done P (Err OutOfTurn) = ⊥
 
 -- a key that is not held was seated, or is refused
 abbrev pub SeatDoes : Layout → List Content → Key → Value → List ℕ → Result Seated Refusal → List Content → List ℕ → Type 0
-SeatDoes L xs k v was (Ok (In m s)) ys is =
-    (Pathed L xs k v m ys ⊎ Stowed L xs k v m ys) × (s ≡ stashed L ys) × (is ≡ was)
+SeatDoes L xs k v was (Ok (In m)) ys is =
+    (Pathed L xs k v m.moved ys ⊎ Stowed L xs k v m.moved ys) × (m.stashed ≡ stashed L ys) × (is ≡ was)
 SeatDoes L xs k v was (Ok Renewed) ys is = ⊥
 SeatDoes L xs k v was (Err (Full c)) ys is =
     Stuck L xs k × (ys ≡ xs) × (c ≡ length (blocking L xs k)) × (is ≡ blocking L xs k ++ past c was)

@@ -11,10 +11,11 @@ mod blank;
 mod dropping;
 mod frontier;
 mod getting;
-mod ground;
 mod looks;
 mod making;
+mod path_search;
 mod putting;
+mod sizes;
 mod stash;
 
 // A table: 1 to 4 slots a bucket, and up to 8 stash slots behind the buckets.
@@ -35,25 +36,25 @@ pub struct Unmade<B, R> {
     pub rule: R,
 }
 
-// What a put did.
-#[derive(Clone, Copy)]
-pub enum Seated {
-    // the key is new: how many held keys moved, and how many keys are in the stash then
-    In { moved: usize, stashed: usize },
-    // the key was held, and has another value now
-    Renewed,
-}
-
-// What a drop did: how many held keys moved, and how many keys are in the stash then.
-#[derive(Clone, Copy)]
-pub struct Out {
+// How many held keys moved, and how many keys are in the stash then.
+#[derive(Clone, Copy, Debug, PartialEq, Eq)]
+pub struct Moves {
     pub moved: usize,
     pub stashed: usize,
 }
 
-// What a get found, and how many slots it looked at.
-#[derive(Clone, Copy)]
-pub struct Got {
-    pub value: Option<u64>,
+// What a put did.
+#[derive(Clone, Copy, Debug, PartialEq, Eq)]
+pub enum Seated {
+    // the key is new
+    In(Moves),
+    // the key was held, and has another value now
+    Renewed,
+}
+
+// What was found, and how many slots were looked at.
+#[derive(Clone, Copy, Debug, PartialEq, Eq)]
+pub struct Looked<T> {
+    pub found: Option<T>,
     pub looks: usize,
 }

@@ -1,6 +1,6 @@
 // Tables made, and taken apart again.
 ghost use Rattle.std.specs.Prelude.{◌≡◌};
-ghost use Rattle.table.specs.Tables.{Made, MakeTells};
+ghost use Rattle.table.specs.Tables.{MakeTells};
 
 use crate::stash::empty_front;
 use crate::{Table, Unmade};
@@ -12,14 +12,13 @@ impl<B: Bank, R: Rule<B::Key>> Table<B, R> {
     // A table over the first slots of the bank, all of them emptied. The sizes are looked at before the
     // bank's length.
     pub(crate) fn new(
-        bank: B,
+        mut bank: B,
         rule: R,
         width: usize,
         stash: usize,
     ) -> Result<Table<B, R>, Unmade<B, R>>
-        ensures { MakeTells B.Bank.slots B.Bank.place R.Rule.count R.Rule.places bank rule width stash result }
+        ensures { MakeTells bank rule width stash result }
     {
-        let mut bank = bank;
         if width < 1 || width > 4 || stash > 8 {
             return Err(Unmade {
                 refusal: Refusal::Size,

@@ -1,18 +1,12 @@
 // Keys put into a table.
-ghost use Rattle.std.specs.Prelude.{◌≡◌, ◌≤◌, length};
-ghost use Rattle.search.specs.Queues.{Tidy};
-ghost use Rattle.seating.specs.Layouts.{bucket_slots, slots};
+ghost use Rattle.seating.specs.Steps.{Roomy};
 ghost use Rattle.table.specs.Promises.{SeatDoes, PlaceDoes};
-ghost use Rattle.table.specs.Tables.{layout, Keeps, PutTells, lent};
-ghost use Rattle.table.specs.Views.{view};
+ghost use Rattle.table.specs.Shapes.{layout, contents};
+ghost use Rattle.table.specs.Tables.{Keeps, PutTells, lent};
 
 use crate::blank::Blank;
-use crate::frontier::Frontier;
-use crate::frontier::rows::frontier_over;
-use crate::ground::Ground;
-use crate::looks::look_up;
-use crate::stash::{count_held, first_vacant};
-use crate::{Seated, Table};
+use crate::path_search::{PathSearch, search_over};
+use crate::{Moves, Seated, Table};
 use banks::{Bank, Entry};
 use keys::Refusal;
 use places::Rule;
@@ -22,70 +16,45 @@ impl<B: Bank, R: Rule<B::Key>> Table<B, R> {
     fn seat(
         &mut self,
         entry: Entry<B::Key>,
-        frontier: &mut Frontier<'_>,
-        first: usize,
+        work: &mut [u32],
         list: &mut [u32],
     ) -> Result<Seated, Refusal>
-        requires edge { first ≡ bucket_slots (layout R.Rule.count R.Rule.places self.old) }
-        requires empty { Tidy (view frontier.old) × (frontier.old.tail ≡ 0) }
-        requires rows { length frontier.old.seen.now ≡ slots (layout R.Rule.count R.Rule.places self.old) }
-        requires long { slots (layout R.Rule.count R.Rule.places self.old) ≤ length list.old }
-        ensures keeps { Keeps B.Bank.place self.old self.new }
-        ensures seats { SeatDoes (layout R.Rule.count R.Rule.places self.old) (B.Bank.slots self.old.bank) (B.Key.Kind.bytes entry.key) entry.value list.old result (B.Bank.slots self.new.bank) list.new }
+        requires { Roomy (layout self.old) (lent work.old list.old) }
+        ensures keeps { Keeps self.old self.new }
+        ensures seats { SeatDoes (layout self.old) (contents self.old) (B.Key.Kind.bytes entry.key) entry.value list.old result (contents self.new) list.new }
     {
-        let end = first + self.stash;
-        let ground = Ground {
-            bank: &self.bank,
-            rule: &self.rule,
-            width: self.width,
-            stash: self.stash,
-        };
-        if frontier.seek_key(&ground, &entry.key) {
+        let mut search = search_over(self, work);
+        let found = search.seek_key(&entry.key);
+        if found {
+            let PathSearch { table: _, frontier } = search;
             let moved = frontier.carry_out(&mut self.bank, Some(entry));
-            let stashed = count_held(&self.bank, first, self.stash);
-            return Ok(Seated::In { moved, stashed });
+            let stashed = self.stashed();
+            return Ok(Seated::In(Moves { moved, stashed }));
         }
-        match first_vacant(ground.bank, first, end) {
-            Some(i) => {
-                let _ = self.bank.write(i, entry.key, entry.value);
-                let stashed = count_held(&self.bank, first, self.stash);
-                return Ok(Seated::In { moved: 0, stashed });
-            }
-            None => {}
+        if let Some(i) = self.vacant_stash() {
+            let _ = self.bank.write(i, entry.key, entry.value);
+            let stashed = self.stashed();
+            return Ok(Seated::In(Moves { moved: 0, stashed }));
         }
-        frontier.flood(&ground, first, end);
-        Err(Refusal::Full(frontier.list_seen(list)))
+        Err(Refusal::Full(search.list_blocking(list)))
     }
 
     // Gives a held key its new value, or seats another.
     fn place(
         &mut self,
         entry: Entry<B::Key>,
-        frontier: &mut Frontier<'_>,
-        first: usize,
+        work: &mut [u32],
         list: &mut [u32],
     ) -> Result<Seated, Refusal>
-        requires edge { first ≡ bucket_slots (layout R.Rule.count R.Rule.places self.old) }
-        requires empty { Tidy (view frontier.old) × (frontier.old.tail ≡ 0) }
-        requires rows { length frontier.old.seen.now ≡ slots (layout R.Rule.count R.Rule.places self.old) }
-        requires long { slots (layout R.Rule.count R.Rule.places self.old) ≤ length list.old }
-        ensures keeps { Keeps B.Bank.place self.old self.new }
-        ensures places { PlaceDoes (layout R.Rule.count R.Rule.places self.old) (B.Bank.slots self.old.bank) (B.Key.Kind.bytes entry.key) entry.value list.old result (B.Bank.slots self.new.bank) list.new }
+        requires { Roomy (layout self.old) (lent work.old list.old) }
+        ensures keeps { Keeps self.old self.new }
+        ensures places { PlaceDoes (layout self.old) (contents self.old) (B.Key.Kind.bytes entry.key) entry.value list.old result (contents self.new) list.new }
     {
-        let ground = Ground {
-            bank: &self.bank,
-            rule: &self.rule,
-            width: self.width,
-            stash: self.stash,
+        let Some(hit) = self.look_up(&entry.key).found else {
+            return self.seat(entry, work, list);
         };
-        let look = look_up(&ground, &entry.key, first);
-        match look.hit {
-            Some(hit) => {
-                let _ = self.bank.write(hit.slot, entry.key, entry.value);
-                Ok(Seated::Renewed)
-            }
-            None => self.seat(entry, frontier, first, list),
-        }
+        let _ = self.bank.write(hit.slot, entry.key, entry.value);
+        Ok(Seated::Renewed)
     }
 
     // Puts the key with its value into the table. The work area comes back blank, but if it or the list
@@ -97,15 +66,13 @@ impl<B: Bank, R: Rule<B::Key>> Table<B, R> {
         work: &mut [u32],
         list: &mut [u32],
     ) -> Result<Seated, Refusal>
-        ensures { PutTells B.Bank.slots B.Bank.place R.Rule.count R.Rule.places self.old (B.Key.Kind.bytes key) value (lent work.old list.old) result self.new (lent work.new list.new) }
+        ensures { PutTells self.old (B.Key.Kind.bytes key) value (lent work.old list.old) result self.new (lent work.new list.new) }
     {
-        let first = self.rule.buckets() * self.width;
-        let n = first + self.stash;
+        let n = self.slot_count();
         if work.len() < 3 * n || list.len() < n {
             return Err(Refusal::LentShort);
         }
         let guard = Blank(work);
-        let mut frontier = frontier_over(&mut *guard.0, n);
-        self.place(Entry { key, value }, &mut frontier, first, list)
+        self.place(Entry { key, value }, &mut *guard.0, list)
     }
 }

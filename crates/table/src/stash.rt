@@ -1,36 +1,18 @@
 // The slots of a stash, looked at one after another; and the front of a bank, emptied.
-ghost use Rattle.std.specs.Prelude.{◌≡◌, ℕ, ◌+◌, ◌^◌, ◌<◌, ◌≤◌, ◌++◌, length, take, drop, replicate, MatchOption};
-ghost use Rattle.search.specs.Searches.{Between};
-ghost use Rattle.seating.specs.Layouts.{vacant};
-ghost use Rattle.seating.specs.Slots.{at, keys};
+ghost use Rattle.std.specs.Prelude.{◌≡◌, ℕ, ◌≤◌, ◌++◌, length, drop, replicate, MatchOption};
+ghost use Rattle.seating.specs.Layouts.{vacant, Stash};
+ghost use Rattle.seating.specs.Slots.{at, stashed};
+ghost use Rattle.table.specs.Shapes.{layout, contents, is_vacant};
 
-use crate::ground::vacant_at;
-use banks::Bank;
+use crate::Table;
+use banks::{Bank, content_at};
+use places::Rule;
 
-// The first vacant slot from first to end.
-pub(crate) fn first_vacant<B: Bank>(bank: &B, first: usize, end: usize) -> Option<usize>
-    ensures { MatchOption result ((i : ℕ) → Between first end i → at (B.Bank.slots bank.now) i ≡ vacant → ⊥) (λ i. Between first end i × (at (B.Bank.slots bank.now) i ≡ vacant)) }
+// Whether slot i is vacant.
+pub(crate) fn vacant_at<B: Bank>(bank: &B, i: usize) -> bool
+    ensures { result ≡ is_vacant (at (B.Bank.slots bank.now) i) }
 {
-    for i in first..end {
-        if vacant_at(bank, i) {
-            return Some(i);
-        }
-    }
-    None
-}
-
-// How many of the count slots from first on hold a key.
-pub(crate) fn count_held<B: Bank>(bank: &B, first: usize, count: usize) -> usize
-    requires { first + count < 2 ^ 32 }
-    ensures { result ≡ length (keys (take count (drop first (B.Bank.slots bank.now)))) }
-{
-    let mut held = 0;
-    for j in 0..count {
-        if !vacant_at(bank, first + j) {
-            held += 1;
-        }
-    }
-    held
+    content_at(bank, i).is_none()
 }
 
 // Empties the first n slots.
@@ -40,5 +22,23 @@ pub(crate) fn empty_front<B: Bank>(bank: &mut B, n: usize)
 {
     for i in 0..n {
         let _ = bank.clear(i);
+    }
+}
+
+impl<B: Bank, R: Rule<B::Key>> Table<B, R> {
+    // The first vacant slot of the stash.
+    pub(crate) fn vacant_stash(&self) -> Option<usize>
+        ensures { MatchOption result ((i : ℕ) → Stash (layout self.now) i → at (contents self.now) i ≡ vacant → ⊥) (λ i. Stash (layout self.now) i × (at (contents self.now) i ≡ vacant)) }
+    {
+        (self.stash_start()..self.slot_count()).find(|i| vacant_at(&self.bank, *i))
+    }
+
+    // How many keys sit in the stash.
+    pub(crate) fn stashed(&self) -> usize
+        ensures { result ≡ stashed (layout self.now) (contents self.now) }
+    {
+        (self.stash_start()..self.slot_count())
+            .filter(|i| !vacant_at(&self.bank, *i))
+            .count()
     }
 }

@@ -1,7 +1,6 @@
-// An empty frontier, and one slot more.
-ghost use Rattle.std.specs.Prelude.{◌≡◌, ◌*◌, ◌^◌, ◌<◌, ◌≤◌, length};
-ghost use Rattle.search.specs.Queues.{Tidy, Offered};
-ghost use Rattle.table.specs.Views.{view};
+// An empty frontier, its entries, and one slot more.
+ghost use Rattle.std.specs.Prelude.{◌≡◌, ◌+◌, ◌*◌, ◌^◌, ◌<◌, ◌≤◌, length, Decides, MatchOption};
+ghost use Rattle.search.specs.Queues.{Tidy, Fresh, Offered, slot, link};
 
 use crate::frontier::Frontier;
 
@@ -9,9 +8,8 @@ use crate::frontier::Frontier;
 pub(crate) fn frontier_over(words: &mut [u32], n: usize) -> Frontier<'_>
     requires long { 3 * n ≤ length words.old }
     requires few { n < 2 ^ 32 }
-    ensures tidy { Tidy (view result) }
-    ensures empty { result.tail ≡ 0 }
-    ensures rows { length result.seen.now ≡ n }
+    ensures fresh { Fresh result }
+    ensures rows { length result.seen ≡ n }
 {
     let (seen, rest) = words.split_at_mut(n);
     let (at, rest) = rest.split_at_mut(n);
@@ -26,18 +24,49 @@ pub(crate) fn frontier_over(words: &mut [u32], n: usize) -> Frontier<'_>
 }
 
 impl Frontier<'_> {
-    // Appends slot i under the link, if it was not seen.
-    pub(crate) fn push(&mut self, i: usize, link: usize)
-        requires tidy { Tidy (view self.old) }
-        requires low { i < length self.old.seen.now }
-        requires back { link ≤ self.old.tail }
-        ensures { Offered link i (view self.old) (view self.new) }
+    // How many entries there are.
+    pub(crate) fn len(&self) -> usize
+        ensures len { result ≡ self.now.tail }
+        ensures few { self.now.tail < 2 ^ 32 }
+        ensures tidy { Tidy self.now }
     {
-        if self.seen[i] == 0 {
-            self.seen[i] = 1;
-            self.at[self.tail] = i as u32;
-            self.from[self.tail] = link as u32;
-            self.tail += 1;
+        self.tail
+    }
+
+    // The slot of entry p.
+    pub(crate) fn slot(&self, p: usize) -> usize
+        requires { p < self.now.tail }
+        ensures slot { result ≡ slot self.now p }
+        ensures tidy { Tidy self.now }
+    {
+        let _ = &self.tail;
+        self.at[p] as usize
+    }
+
+    // The entry that entry p was reached from; a root has none.
+    pub(crate) fn before(&self, p: usize) -> Option<usize>
+        requires { p < self.now.tail }
+        ensures { MatchOption result (link self.now p ≡ 0) (λ b. link self.now p ≡ b + 1) }
+    {
+        let _ = &self.tail;
+        (self.from[p] as usize).checked_sub(1)
+    }
+
+    // Appends slot i under the link, if it was not seen; whether it was appended.
+    pub(crate) fn push(&mut self, i: usize, link: usize) -> bool
+        requires low { i < length self.old.seen }
+        requires back { link ≤ self.old.tail }
+        ensures offered { Offered link i self.old self.new }
+        ensures new { Decides result (self.old.tail < self.new.tail) }
+    {
+        let tail = self.tail;
+        if self.seen[i] != 0 {
+            return false;
         }
+        self.seen[i] = 1;
+        self.at[tail] = i as u32;
+        self.from[tail] = link as u32;
+        self.tail = tail + 1;
+        true
     }
 }

@@ -1,22 +1,14 @@
-use Rattle.table.specs.Tables.{layout}
-use Rattle.table.proofs.Parts.{sized_of}
+use Rattle.std.proofs.Common.{◌≡◌, rules}
+use Rattle.std.specs.Option.{option_map}
+use Rattle.table.specs.Shapes.{layout, contents}
+use Rattle.table.proofs.Parts.{table_sized}
 use Rattle.table.proofs.Promising.{get_answer, got_map}
 use Rattle.table.proofs.Table.get.Goals as goal
 
-pub returns-in-Some : goal.returns-in-Some
-returns-in-Some g c =
+pub returns : goal.returns
+returns g c =
     let t = c.args.self.now in
-    let L = layout g.R.Rule.count g.R.Rule.places t in
-    let k = g.B.Key.Kind.bytes c.args.key.now in
-    let sized = sized_of g.R.Rule.count g.R.Rule.degree g.R.Rule.places t.rule t.width t.stash g.met.R.Rule.placed t.some in
-    let e = rw c.in-Some.is at (get_answer L (g.B.Bank.slots t.bank) k c.look_up-look.result sized c.look_up-look.ensures) in
-    record { answer = e; map = λ s. got_map L _ k _ _ e s }
-
-pub returns-in-None : goal.returns-in-None
-returns-in-None g c =
-    let t = c.args.self.now in
-    let L = layout g.R.Rule.count g.R.Rule.places t in
-    let k = g.B.Key.Kind.bytes c.args.key.now in
-    let sized = sized_of g.R.Rule.count g.R.Rule.degree g.R.Rule.places t.rule t.width t.stash g.met.R.Rule.placed t.some in
-    let e = rw c.in-None.is at (get_answer L (g.B.Bank.slots t.bank) k c.look_up-look.result sized c.look_up-look.ensures) in
-    record { answer = e; map = λ s. got_map L _ k _ _ e s }
+    let e = get_answer (layout t) (contents t) (g.B.Key.Kind.bytes c.args.key.now) c.look_up-look.result (table_sized t g.met.R.Rule.placed) c.look_up-look.ensures in
+    let m : c.map.result ≡ option_map (λ h. h.value) c.look_up-look.result.found = search rules in
+    let f = rw (← m) at e in
+    record { answer = f; map = λ s. got_map (layout t) _ _ _ _ f s }

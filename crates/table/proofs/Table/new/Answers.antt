@@ -3,7 +3,7 @@ use Rattle.seating.specs.Layouts.{slots}
 use Rattle.seating.specs.Layouts.Content.{vacant}
 use Rattle.seating.specs.Steps.{MakeDoes}
 use Rattle.seating.specs.Steps.MakeAnswer.{made}
-use Rattle.table.specs.Views.{layout_of}
+use Rattle.table.specs.Shapes.{layout_of}
 use Rattle.table.proofs.Promising.{made_new}
 use Rattle.table.proofs.Table.new.Goals as goal
 

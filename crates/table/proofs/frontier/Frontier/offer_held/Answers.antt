@@ -1,16 +1,15 @@
-use Rattle.std.proofs.Common.{arith}
-use Rattle.std.proofs.lemmas.Bool.{both_ways}
+use Rattle.std.proofs.Common.{sym, ◌∙◌, arith}
 use Rattle.search.proofs.Rooting.{held_more, held_skip}
 use Rattle.search.proofs.Spreading.{spread_as}
+use Rattle.table.proofs.Stashing.{vacant_if, held_if}
 use Rattle.table.proofs.frontier.Frontier.offer_held.Goals as goal
 use Rattle.table.proofs.frontier.Frontier.offer_held.Goals.{then-not-vacant_at, else-not-vacant_at}
 
 pub loop-i-preserved : goal.loop-i-preserved
 loop-i-preserved g c =
     elim c.if-not-vacant_at.branch [
-      | then-not-vacant_at w ↦ rw w.self-is (held_more _ _ _ c.loop-i.auto.i _ _ c.requires.tidy c.loop-i.invariant _ w.push.ensures
-          (λ e. both_ways _ w.if-not-vacant_at.true (c.vacant_at.ensures.1 e)))
-      | else-not-vacant_at w ↦ rw w.self-is (held_skip _ _ _ c.loop-i.auto.i _ _ c.requires.tidy c.loop-i.invariant (c.vacant_at.ensures.0 w.if-not-vacant_at.false))
+      | then-not-vacant_at w ↦ rw w.self-is (held_more _ _ _ c.loop-i.auto.i _ _ c.loop-i.invariant _ w.push.ensures.offered (held_if _ (sym c.vacant_at.ensures ∙ w.if-not-vacant_at.true)))
+      | else-not-vacant_at w ↦ rw w.self-is (held_skip _ _ _ c.loop-i.auto.i _ _ c.loop-i.invariant (vacant_if _ (sym c.vacant_at.ensures ∙ w.if-not-vacant_at.false)))
     ]
 
 pub returns : goal.returns

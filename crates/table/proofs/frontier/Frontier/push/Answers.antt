@@ -1,28 +1,30 @@
 use Rattle.std.proofs.Common.{◌<◌, length, arith}
-use Rattle.search.proofs.Queuing.{room, offered_new}
+use Rattle.search.proofs.Queuing.{room_for, offered_for}
 use Rattle.table.proofs.frontier.Frontier.push.Goals as goal
 
-tail_low : (c : goal.After-way_told-1) → c.args.self.now.tail < length c.args.self.now.seen.now
-tail_low c = room _ c.requires.tidy c.args.link c.args.i c.requires.low c.if-self-i-eq0.true c.requires.back
+room : (c : goal.Else-self-i-ne0) → (c.self.inside.tail < length c.self.inside.seen.now) × (c.args.link < length c.self.inside.seen.now)
+room c = room_for _ _ _ _ c.self.view_is c.self.invariant c.requires.low c.if-self-i-ne0.false c.requires.back
 
-pub offset_bounds-self-self : goal.offset_bounds-self-self
-offset_bounds-self-self c = omega (arith, tail_low c, c.requires.tidy.fits)
+pub offset_bounds-self-inside-tail : goal.offset_bounds-self-inside-tail
+offset_bounds-self-inside-tail c = omega (arith, room c, c.self.invariant.fits)
 
-pub bounds-self-self : goal.bounds-self-self
-bounds-self-self c = omega (arith, tail_low c, c.requires.tidy.even_at)
+pub bounds-self-inside-tail : goal.bounds-self-inside-tail
+bounds-self-inside-tail c = omega (arith, room c, c.self.invariant.even_at)
 
-pub overflow_cast-self-then-self-i-eq0 : goal.overflow_cast-self-then-self-i-eq0
-overflow_cast-self-then-self-i-eq0 c = omega (arith, tail_low c, c.requires.tidy.fits)
+pub overflow_cast-self-2 : goal.overflow_cast-self-2
+overflow_cast-self-2 c = omega (arith, room c, c.self.invariant.fits)
 
-pub offset_bounds-self-self-then-self-i-eq0 : goal.offset_bounds-self-self-then-self-i-eq0
-offset_bounds-self-self-then-self-i-eq0 c = omega (arith, tail_low c, c.requires.tidy.fits)
+pub offset_bounds-self-inside-tail-2 : goal.offset_bounds-self-inside-tail-2
+offset_bounds-self-inside-tail-2 c = omega (arith, room c, c.self.invariant.fits)
 
-pub bounds-self-self-then-self-i-eq0 : goal.bounds-self-self-then-self-i-eq0
-bounds-self-self-then-self-i-eq0 c = omega (arith, tail_low c, c.requires.tidy.even_from)
+pub bounds-self-inside-tail-2 : goal.bounds-self-inside-tail-2
+bounds-self-inside-tail-2 c = omega (arith, room c, c.self.invariant.even_from)
 
 pub overflow_add-self : goal.overflow_add-self
-overflow_add-self c = omega (arith, tail_low c, c.requires.tidy.fits)
+overflow_add-self c = omega (arith, room c, c.self.invariant.fits)
 
-pub returns-then-self-i-eq0 : goal.returns-then-self-i-eq0
-returns-then-self-i-eq0 c =
-    offered_new _ c.requires.tidy c.args.link c.args.i c.requires.low c.if-self-i-eq0.true c.requires.back
+pub invariant_of-self : goal.invariant_of-self
+invariant_of-self c = (offered_for _ _ _ _ c.self.view_is c.self.invariant c.requires.low c.if-self-i-ne0.false c.requires.back).grew.sound
+
+pub returns-clause-offered : goal.returns-clause-offered
+returns-clause-offered c = offered_for _ _ _ _ c.self.view_is c.self.invariant c.requires.low c.if-self-i-ne0.false c.requires.back

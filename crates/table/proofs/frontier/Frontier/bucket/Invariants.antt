@@ -1,6 +1,0 @@
-use Rattle.search.specs.Searches.{Spread, Toward, Between}
-use Rattle.table.specs.Views.{view}
-use Rattle.table.proofs.frontier.Frontier.bucket.Given as goal
-
-abbrev pub invariant-loop-i : goal.invariant-loop-i
-invariant-loop-i g l = Spread (g.B.Bank.slots l.bank) (Toward l.link (Between l.first l.i)) (view l.initial.self) (view l.self)

@@ -1,0 +1,5 @@
+use Rattle.search.specs.Searches.{Spread, Toward, Between}
+use Rattle.table.proofs.frontier.Frontier.offer.Given as goal
+
+abbrev pub invariant-loop-i : goal.invariant-loop-i
+invariant-loop-i g l = Spread (g.B.Bank.slots l.bank) (Toward l.link (Between l.first l.i)) l.initial.self l.self

@@ -1,9 +1,0 @@
-use Rattle.std.proofs.Common.{◌≡◌, ◌≤◌, ◌++◌, length, drop}
-use Rattle.search.specs.Searches.{marked_below}
-use Rattle.table.proofs.frontier.flood.list_marked.Given as goal
-
-abbrev pub invariant-loop-i : goal.invariant-loop-i
-invariant-loop-i l =
-    (l.c ≡ length (marked_below l.marks l.i))
-    × (l.list ≡ marked_below l.marks l.i ++ drop l.c l.initial.list)
-    × (l.c ≤ l.i)

@@ -1,0 +1,26 @@
+use Rattle.std.proofs.Common.{suc, ◌≡◌, ◌-◌, sym, refl, arith}
+use Rattle.search.proofs.Rooting.{entry_into, entry_onto, entry_vacant}
+use Rattle.table.specs.Shapes.{contents, scene}
+use Rattle.table.proofs.Parts.{stepped_as}
+use Rattle.table.proofs.path_search.PathSearch.expand.Goals as goal
+
+pub returns : goal.returns
+returns g c =
+    let s = c.args.self.now in
+    let h = scene s.table.now in
+    let l = c.args.link in
+    let k = g.B.Key.Kind.bytes c.in-Some.entry.key in
+    let is : l ≡ suc (l - 1) = omega (arith, c.requires) in
+    let here = rw c.slot.ensures.slot at (sym c.in-Some.ensures) in (
+      c.spread.ensures.0,
+      stepped_as (contents s.table.now) s.frontier c.spread.new.self.frontier c.spread.result
+          (entry_into h s.frontier l (l - 1) is k c.in-Some.entry.value here)
+          (entry_onto h s.frontier l (l - 1) is k c.in-Some.entry.value here)
+          c.spread.ensures.1,
+    )
+
+pub returns-in_default : goal.returns-in_default
+returns-in_default g c =
+    let s = c.args.self.now in
+    let l = c.args.link in
+    (refl, entry_vacant (scene s.table.now) s.frontier l (l - 1) (omega (arith, c.requires)) c.slot.ensures.tidy (rw c.slot.ensures.slot at (sym c.in_default.ensures)))

@@ -1,0 +1,40 @@
+// The slots of a range, appended.
+ghost use Rattle.std.specs.Prelude.{◌≤◌, length};
+ghost use Rattle.search.specs.Searches.{Spread, Toward, Between};
+ghost use Rattle.seating.specs.Slots.{Occupied};
+ghost use Rattle.table.specs.Views.{Stepped};
+
+use crate::frontier::Frontier;
+use crate::stash::vacant_at;
+use banks::Bank;
+
+impl Frontier<'_> {
+    // Appends the slots from first to end that were not seen, up to the first vacant one; whether there
+    // was one.
+    pub(crate) fn offer<B: Bank>(&mut self, bank: &B, first: usize, end: usize, link: usize) -> bool
+        requires low { (first ≤ end) × (end ≤ length self.old.seen) }
+        requires back { link ≤ self.old.tail }
+        ensures { Stepped (B.Bank.slots bank.now) (Toward link (Between first end)) self.old self.new result }
+    {
+        let _ = &self.tail;
+        for i in first..end {
+            if self.push(i, link) && vacant_at(bank, i) {
+                return true;
+            }
+        }
+        false
+    }
+
+    // Appends the held slots from first to end as roots.
+    pub(crate) fn offer_held<B: Bank>(&mut self, bank: &B, first: usize, end: usize)
+        requires low { (first ≤ end) × (end ≤ length self.old.seen) }
+        ensures { Spread (B.Bank.slots bank.now) (Toward 0 (λ i. Between first end i × Occupied (B.Bank.slots bank.now) i)) self.old self.new }
+    {
+        let _ = &self.tail;
+        for i in first..end {
+            if !vacant_at(bank, i) {
+                self.push(i, 0);
+            }
+        }
+    }
+}
