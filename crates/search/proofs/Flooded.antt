@@ -3,11 +3,11 @@ use Rattle.std.proofs.Common.{◌≡◌, ℕ, zero, suc, ◌+◌, ◌<◌, ◌�
 use Rattle.std.proofs.lemmas.Bool.{cases_lt}
 use Rattle.search.specs.Queues.{Queue, Seen, slot, link, source, Grew}
 use Rattle.search.specs.Scenes.{Scene, Near}
-use Rattle.search.specs.Searches.{Spread, Toward, Between, Level, Nowhere, Exhausted, Closed, Flooding, Before}
+use Rattle.search.specs.Searches.{Spread, Toward, Level, Nowhere, Exhausted, Closed, Flooding, Before, Waiting}
 use Rattle.search.proofs.Breadth.{same_source}
-use Rattle.search.proofs.Rooting.{HeldIn, level_any, near_as, near_back}
+use Rattle.search.proofs.Rooting.{level_any, near_as, near_back}
 use Rattle.search.proofs.Spreading.{stays_seen, grew_as}
-use Rattle.seating.specs.Layouts.{bucket_slots, slots, Stash}
+use Rattle.seating.specs.Layouts.{Stash}
 use Rattle.seating.specs.Slots.{Occupied}
 
 -- a search that found nothing leaves a closed set
@@ -19,22 +19,22 @@ exhausted_closed h R q x = record {
 }
 
 -- the slots of the stash were added to a closed set
-module _ (h : Scene) (a b : ℕ) (q r : Queue) (s : Closed h q) (w : Spread h.slots (Toward 0 (HeldIn h.slots a b)) q r) where
+module _ (h : Scene) (q r : Queue) (s : Closed h q) (w : Spread h.slots (Toward 0 (Waiting h)) q r) where
   pub seen_before : (i : ℕ) → Before r (q.tail + 1) i ↔ Seen q i
   seen_before i = (
     (λ (p, l, e). (let o : p < q.tail = omega arith in let m = s.sound.marked p o in rw (sym (w.grew.same_slot p o) ∙ e) at m)),
     (λ x. let (p, l, e) = s.sound.listed i x in (p, omega arith, w.grew.same_slot p l ∙ e)),
   )
 
-  pub flood_begun : a ≡ bucket_slots h.layout → b ≡ slots h.layout → ((i : ℕ) → Stash h.layout i → Occupied h.slots i)
+  pub flood_begun : ((i : ℕ) → Stash h.layout i → Occupied h.slots i)
       → Flooding h (Before r (q.tail + 1)) r (q.tail + 1)
-  flood_begun ea eb filled = record {
+  flood_begun filled = record {
     sound = w.grew.sound;
     linked = λ p g. elim (cases_lt p q.tail) [
       | inl o ↦ inl (rw (w.grew.same_slot p o, w.grew.same_link p o, same_source q r w.grew (link q p) (omega (arith, s.sound.back p o))) (old p o (link q p) refl))
-      | inr o ↦ (let t = w.grew.among p o g in inr (omega (arith, t.1.0.0), omega (arith, t.1.0.1)))
+      | inr o ↦ inr (w.grew.among p o g).1.stash
     ];
-    stash = λ i x. (let z : Between a b i = (omega (arith, x.0), omega (arith, x.1)) in w.all 0 i (refl, (z, filled i x)));
+    stash = λ i x. w.all 0 i (refl, record { stash = x; held = filled i x });
     closed = λ m i g n. done m i g n;
   }
     where

@@ -1,5 +1,5 @@
 -- One slot more in a queue.
-use Rattle.std.proofs.Common.{◌≡◌, ℕ, ◌+◌, ◌^◌, ◌<◌, ◌≤◌, ◌≢◌, ◌⊎◌, List, length, get_or, set, sum, sym, ap, subst, ◌∙◌, inl, inr, arith}
+use Rattle.std.proofs.Common.{◌≡◌, ℕ, ◌+◌, ◌<◌, ◌≤◌, ◌≢◌, ◌⊎◌, List, length, get_or, set, sum, sym, ap, subst, ◌∙◌, inl, inr, arith}
 use Rattle.std.proofs.lemmas.List.{get_or-set_same, get_or-set_other, length-set}
 use Rattle.std.proofs.lemmas.List.Sums.{sum_by-set}
 use Rattle.std.proofs.ByRecursion.{sum_by_le, All-from_get_or}
@@ -109,22 +109,7 @@ module _ (q : Queue) (s : Tidy q) (l i : ℕ) (low : i < length q.seen) (new : g
 pub tail_le : (q : Queue) → Tidy q → q.tail ≤ length q.seen
 tail_le q s = omega (arith, s.count, sum_by_le (λ x. x) 1 q.seen (All-from_get_or (λ x. x ≤ 1) _ 0 (λ j h. s.bits j)))
 
--- with nothing seen the queue is empty
-pub none_seen : (s a f : List ℕ) → length s < 2 ^ 32 → length a ≡ length s → length f ≡ length s
-    → ((i : ℕ) → get_or s i 0 ≡ 0) → Tidy (queue s a f 0)
-none_seen s a f small ea ef none = record {
-  fits = small;
-  even_at = ea;
-  even_from = ef;
-  bits = λ i. omega (arith, none i);
-  count = omega (arith, sum_by_le (λ x. x) 0 s (All-from_get_or (λ x. x ≤ 0) s 0 (λ i g. omega (arith, none i))));
-  marked = λ p g. absurd (omega arith);
-  listed = λ i g. absurd (omega (arith, none i, g));
-  apart = λ p r g k e. absurd (omega arith);
-  back = λ p g. absurd (omega arith);
-}
-
--- the same of a queue that is seen as v
+-- one slot more of a queue that is seen as v
 module _ (q v : Queue) (l i : ℕ) (e : q ≡ v) (s : Tidy q) (low : i < length v.seen) (new : get_or q.seen i 0 ≡ 0) (le : l ≤ v.tail) where
   here : i < length q.seen
   here = omega (arith, ap (λ (q : Queue). length q.seen) e)

@@ -39,13 +39,6 @@ roots_reached h q r = record {
 
 -- what was offered to an empty queue are its roots
 module _ (P : ℕ → Type 0) (xs : List Content) (q r : Queue) (none : q.tail ≡ 0) where
-  pub spread_roots : Spread xs (Toward 0 P) q r → Roots xs r
-  spread_roots w = record {
-    sound = w.grew.sound;
-    full = λ p l. w.full p (omega arith) l;
-    rooted = λ p l. (w.grew.among p (omega arith) l).0;
-  }
-
   pub spread_seen : Spread xs (Toward 0 P) q r → (i : ℕ) → Seen r i ↔ P i
   spread_seen w i = (
     (λ s. let (p, l, e) = w.grew.sound.listed i s in rw e at (w.grew.among p (omega arith) l).1),

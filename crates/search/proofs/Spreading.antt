@@ -107,16 +107,6 @@ spread_one xs l i q r w full = record {
   all = λ m j t. rw t.1 w.all;
 }
 
-pub struck_one : (xs : List Content) (l i : ℕ) (q r : Queue) → Offered l i q r
-    → q.tail < r.tail → at xs i ≡ vacant → Struck xs (Toward l (λ j. j ≡ i)) q r q.tail
-struck_one xs l i q r w new free = record {
-  grew = w.grew;
-  new = omega arith;
-  top = omega (arith, w.one);
-  full = λ p h k. absurd (omega arith);
-  free = rw (w.grew.among q.tail (omega arith) new).1 free;
-}
-
 -- one slot more of a range
 pub range_into : (l a i e : ℕ) → a ≤ i → i < e → (m j : ℕ) → Toward l (Between a i) m j ⊎ Toward l (λ j. j ≡ i) m j → Toward l (Between a e) m j
 range_into l a i e h g m j (inl t) = (t.0, (t.1.0, omega (arith, t.1.1)))

@@ -2,41 +2,22 @@
 use Rattle.std.proofs.Common.{◌≡◌, ℕ, suc, ◌≤◌, List, [], ◌∷◌, set, sym, refl, ap, ◌∙◌, subst, arith}
 use mathlib.Core.List.{Memᴰ}
 use Rattle.search.specs.Queues.{Queue, slot, link}
-use Rattle.search.specs.Roads.{Full, Road, Halfway}
-use Rattle.search.specs.Scenes.{Scene, Way}
-use Rattle.search.specs.Scenes.Way.{last, next}
+use Rattle.search.specs.Roads.{Road, Halfway}
+use Rattle.search.specs.Scenes.{Scene}
 use Rattle.search.specs.Searches.{Trail, onto, Found}
 use Rattle.search.specs.Searches.Trail.{start, onward}
 use Rattle.seating.specs.Layouts.{Content}
-use Rattle.seating.specs.Layouts.Content.{vacant}
 use Rattle.seating.specs.Paths.{Distinct, carry}
 use Rattle.seating.specs.Slots.{at}
 use Rattle.seating.proofs.Carrying.{carry_off}
-use Rattle.seating.proofs.Sitting.{not_both}
 
 distinct_onto : (is js : List ℕ) → Distinct (onto is js) → Distinct js
 distinct_onto [] js d = d
 distinct_onto (i ∷ is) js d = (distinct_onto is (i ∷ js) d).1
 
-full_tail : (xs : List Content) (i : ℕ) (js : List ℕ) → Full xs (i ∷ js) → Full xs js
-full_tail xs i [] f = tt
-full_tail xs i (j ∷ js) f = f.1
-
-full_onto : (xs : List Content) (is js : List ℕ) → Full xs (onto is js) → Full xs js
-full_onto xs [] js f = f
-full_onto xs (i ∷ is) js f = full_tail xs i js (full_onto xs is (i ∷ js) f)
-
-way_full : (h : Scene) (R : ℕ → Type 0) {u : ℕ} (is : List ℕ) → Way h R u is → Full h.slots is
-way_full h R [] w = tt
-way_full h R (i ∷ []) w = tt
-way_full h R (i ∷ j ∷ is) (next n w) = ((λ e. first (j ∷ is) w e), way_full h R (j ∷ is) w)
-  where
-    first : (js : List ℕ) → Way h R (suc i) js → at h.slots i ≡ vacant → ⊥
-    first js (last m _) e = not_both _ m.0 m.1 e m.2
-    first js (next m _) e = not_both _ m.0 m.1 e m.2
-
-pub found_road : (h : Scene) (R : ℕ → Type 0) (q : Queue) (j : ℕ) (f : Found h R q j) → Road h.slots q j f.walk
-found_road h R q j f = record { sound = f.sound; low = f.low; trail = f.trail; apart = f.apart; full = way_full h R _ f.way }
+-- a way that was found can be carried out
+pub found_road : (h : Scene) (R : ℕ → Type 0) (q : Queue) (j : ℕ) (f : Found h R q j) → Road q j f.walk
+found_road h R q j f = record { sound = f.sound; low = f.low; trail = f.trail; apart = f.apart }
 
 back : {q : Queue} {l : ℕ} {is : List ℕ} (p : ℕ) → l ≡ suc p → Trail q l is → (r : List ℕ) × (is ≡ slot q p ∷ r) × Trail q (link q p) r × (link q p ≤ p)
 back p e start = absurd (omega arith)
@@ -48,7 +29,7 @@ back_none : {q : Queue} {l : ℕ} {is : List ℕ} → l ≡ 0 → Trail q l is �
 back_none e start = refl
 back_none e (onward m is lt t) = absurd (omega arith)
 
-module _ (xs : List Content) (q : Queue) (j : ℕ) (w : List ℕ) (road : Road xs q j w) where
+module _ (xs : List Content) (q : Queue) (j : ℕ) (w : List ℕ) (road : Road q j w) where
   pub halfway_start : Halfway xs q w j xs
   halfway_start = record { low = road.low; rest = w; done = []; trail = road.trail; whole = refl; here = refl }
 
@@ -73,15 +54,9 @@ module _ (xs : List Content) (q : Queue) (j : ℕ) (w : List ℕ) (road : Road x
       apart' : Distinct (slot q b ∷ slot q p ∷ half.done)
       apart' = distinct_onto second.0 (slot q b ∷ slot q p ∷ half.done) (rw whole' road.apart)
 
-      full' : at xs (slot q b) ≡ vacant → ⊥
-      full' = (full_onto xs second.0 (slot q b ∷ slot q p ∷ half.done) (rw whole' road.full)).0
-
       -- what the entry b holds is still there
       pub still : at ys (slot q b) ≡ at xs (slot q b)
       still = rw half.here (carry_off xs half.done _ (slot q b) (λ m. apart'.0 (Memᴰ.tail m)))
-
-      pub never_vacant : at ys (slot q b) ≡ vacant → ⊥
-      never_vacant v = full' (sym still ∙ v)
 
       pub halfway_more : (c : Content) → c ≡ at ys (slot q b) → Halfway xs q w b (set ys (slot q p) c)
       halfway_more c f = record {

@@ -1,13 +1,11 @@
 -- Looks at some slots and then at others.
-use Rattle.std.proofs.Common.{◌≡◌, ℕ, ◌+◌, ◌-◌, ◌<◌, ◌≤◌, Bool, true, false, List, [], ◌∷◌, ◌++◌, length, get_or, take, drop, is_some, Some, None, Decides, Option, sym, refl, ap, ◌∙◌, inl, inr, append-nil, arith, take-append-drop, MatchOption}
+use Rattle.std.proofs.Common.{◌≡◌, ℕ, ◌+◌, ◌-◌, ◌<◌, ◌≤◌, true, false, List, [], ◌∷◌, ◌++◌, length, get_or, take, drop, is_some, Some, None, Option, sym, refl, ap, ◌∙◌, inl, inr, append-nil, arith, take-append-drop, MatchOption}
 use mathlib.Core.List.Memᴰ
 use mathlib.Core.List.{Memᴰ}
 use Rattle.std.specs.List.{range_with_len, flat_map}
 use Rattle.std.proofs.lemmas.List.{take_more}
-use Rattle.std.proofs.lemmas.Bool.{both_ways}
 use Rattle.std.proofs.lemmas.Grind.{flat_map-append}
 use Rattle.seating.specs.Layouts.{Key, Value, Content}
-use Rattle.seating.specs.Layouts.Content.{holding}
 use Rattle.seating.specs.Lookups.{looked, look_in}
 use Rattle.seating.specs.Slots.{at, value_at}
 use Rattle.seating.proofs.Looking.{in_front, in_back, looks_few as few}
@@ -117,19 +115,6 @@ module _ (xs : List Content) (k : Key) (a j : ℕ) where
       rw (one_more a j) at (looks_then xs k (range_with_len a j) ((a + j) ∷ []) j _ s (look_hit xs k (a + j) v e)) in
       let m : (j + 1) + (n - (j + 1)) ≡ n = omega arith in
       rw (sym (counting_split (j + 1) a (n - (j + 1))) ∙ ap (range_with_len a) m) at (looks_stop xs k (range_with_len a (j + 1)) (range_with_len (a + (j + 1)) (n - (j + 1))) _ refl here)
-
--- what a slot with a key has for a key
-pub value_same : (x : Content) (h k : Key) (v : Value) → x ≡ holding h v → h ≡ k → Some v ≡ value_at k x
-value_same x h k v e s = elim (has_or_not k x) [
-  | inl (u, p, f) ↦ (let z : u ≡ v = cc in ap Some (sym z) ∙ sym f)
-  | inr (n, f) ↦ absurd (n v (rw s at e))
-]
-
-pub value_other : (x : Content) (h k : Key) (v : Value) (b : Bool) → x ≡ holding h v → Decides b (h ≡ k) → b ≡ false → None ≡ value_at k x
-value_other x h k v b e d f = elim (has_or_not k x) [
-  | inl (u, p, q) ↦ absurd (both_ways b f (d.1 (cc)))
-  | inr (n, q) ↦ sym q
-]
 
 -- one bucket more
 module _ (xs : List Content) (k : Key) (f : ℕ → List ℕ) (bs : List ℕ) (j n : ℕ) (l : j < length bs) (before : Looks xs k (flat_map f (take j bs)) (unfound n)) where

@@ -48,3 +48,6 @@ when_as false f g w = g w
 -- a table that is kept but for its bank has the same layout
 pub keeps_layout : {B R K Q : Type 0} {gb : Banks.Ghosts B K Q} {gk : Kinds.Ghosts K Q} {gr : Rules.Ghosts R K Q} (t u : Table B R K Q gb gk gr) → Keeps t u → layout u ≡ layout t
 keeps_layout t u k = rw (k.rule, k.width, k.stash) refl
+
+pub kept : {B R K Q : Type 0} {gb : Banks.Ghosts B K Q} {gk : Kinds.Ghosts K Q} {gr : Rules.Ghosts R K Q} (t : Table B R K Q gb gk gr) → Keeps t t
+kept t = record { rule = refl; width = refl; stash = refl; stays = refl }

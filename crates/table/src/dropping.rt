@@ -42,7 +42,6 @@ impl<B: Bank, R: Rule<B::Key>> Table<B, R> {
         };
         let _ = self.bank.clear(hit.slot);
         let moved = self.settle(&mut *guard.0);
-        let stashed = self.stashed();
-        Ok(Moves { moved, stashed })
+        Ok(self.moves(moved))
     }
 }

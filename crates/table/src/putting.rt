@@ -6,7 +6,7 @@ ghost use Rattle.table.specs.Tables.{Keeps, PutTells, lent};
 
 use crate::blank::Blank;
 use crate::path_search::{PathSearch, search_over};
-use crate::{Moves, Seated, Table};
+use crate::{Seated, Table};
 use banks::{Bank, Entry};
 use keys::Refusal;
 use places::Rule;
@@ -28,13 +28,11 @@ impl<B: Bank, R: Rule<B::Key>> Table<B, R> {
         if found {
             let PathSearch { table: _, frontier } = search;
             let moved = frontier.carry_out(&mut self.bank, Some(entry));
-            let stashed = self.stashed();
-            return Ok(Seated::In(Moves { moved, stashed }));
+            return Ok(Seated::In(self.moves(moved)));
         }
         if let Some(i) = self.vacant_stash() {
             let _ = self.bank.write(i, entry.key, entry.value);
-            let stashed = self.stashed();
-            return Ok(Seated::In(Moves { moved: 0, stashed }));
+            return Ok(Seated::In(self.moves(0)));
         }
         Err(Refusal::Full(search.list_blocking(list)))
     }

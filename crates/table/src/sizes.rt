@@ -6,6 +6,7 @@ ghost use Rattle.table.specs.Shapes.{layout};
 use crate::Table;
 use banks::Bank;
 use places::Rule;
+use std::ops::Range;
 
 impl<B: Bank, R: Rule<B::Key>> Table<B, R> {
     // The first slot of the stash; the slots of the buckets come before it.
@@ -21,5 +22,13 @@ impl<B: Bank, R: Rule<B::Key>> Table<B, R> {
         ensures few { slots (layout self.now) < 2 ^ 32 }
     {
         self.stash_start() + self.stash
+    }
+
+    // The slots of the stash.
+    pub(crate) fn stash_slots(&self) -> Range<usize>
+        ensures start { result.start ≡ bucket_slots (layout self.now) }
+        ensures end { result.end ≡ slots (layout self.now) }
+    {
+        self.stash_start()..self.slot_count()
     }
 }

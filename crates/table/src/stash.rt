@@ -4,7 +4,7 @@ ghost use Rattle.seating.specs.Layouts.{vacant, Stash};
 ghost use Rattle.seating.specs.Slots.{at, stashed};
 ghost use Rattle.table.specs.Shapes.{layout, contents, is_vacant};
 
-use crate::Table;
+use crate::{Moves, Table};
 use banks::{Bank, content_at};
 use places::Rule;
 
@@ -30,15 +30,26 @@ impl<B: Bank, R: Rule<B::Key>> Table<B, R> {
     pub(crate) fn vacant_stash(&self) -> Option<usize>
         ensures { MatchOption result ((i : ℕ) → Stash (layout self.now) i → at (contents self.now) i ≡ vacant → ⊥) (λ i. Stash (layout self.now) i × (at (contents self.now) i ≡ vacant)) }
     {
-        (self.stash_start()..self.slot_count()).find(|i| vacant_at(&self.bank, *i))
+        self.stash_slots().find(|i| vacant_at(&self.bank, *i))
     }
 
     // How many keys sit in the stash.
-    pub(crate) fn stashed(&self) -> usize
+    fn stashed(&self) -> usize
         ensures { result ≡ stashed (layout self.now) (contents self.now) }
     {
-        (self.stash_start()..self.slot_count())
+        self.stash_slots()
             .filter(|i| !vacant_at(&self.bank, *i))
             .count()
+    }
+
+    // So many moves, and what the stash holds now.
+    pub(crate) fn moves(&self, moved: usize) -> Moves
+        ensures moved { result.moved ≡ moved }
+        ensures stashed { result.stashed ≡ stashed (layout self.now) (contents self.now) }
+    {
+        Moves {
+            moved,
+            stashed: self.stashed(),
+        }
     }
 }

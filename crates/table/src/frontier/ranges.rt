@@ -1,7 +1,6 @@
 // The slots of a range, appended.
 ghost use Rattle.std.specs.Prelude.{◌≤◌, length};
-ghost use Rattle.search.specs.Searches.{Spread, Toward, Between};
-ghost use Rattle.seating.specs.Slots.{Occupied};
+ghost use Rattle.search.specs.Searches.{Toward, Between};
 ghost use Rattle.table.specs.Views.{Stepped};
 
 use crate::frontier::Frontier;
@@ -23,18 +22,5 @@ impl Frontier<'_> {
             }
         }
         false
-    }
-
-    // Appends the held slots from first to end as roots.
-    pub(crate) fn offer_held<B: Bank>(&mut self, bank: &B, first: usize, end: usize)
-        requires low { (first ≤ end) × (end ≤ length self.old.seen) }
-        ensures { Spread (B.Bank.slots bank.now) (Toward 0 (λ i. Between first end i × Occupied (B.Bank.slots bank.now) i)) self.old self.new }
-    {
-        let _ = &self.tail;
-        for i in first..end {
-            if !vacant_at(bank, i) {
-                self.push(i, 0);
-            }
-        }
     }
 }

@@ -13,8 +13,8 @@ impl Frontier<'_> {
     // the first hold the content; the number of moves. The way is a chain of links, which no iterator
     // follows, so this is a `while`.
     pub(crate) fn carry_out<B: Bank>(&self, bank: &mut B, content: Option<Entry<B::Key>>) -> usize
-        requires { (w : List ℕ) × Road (B.Bank.slots bank.old) self.now (self.now.tail - 1) w }
-        ensures after { (w : List ℕ) → Road (B.Bank.slots bank.old) self.now (self.now.tail - 1) w
+        requires { (w : List ℕ) × Road self.now (self.now.tail - 1) w }
+        ensures after { (w : List ℕ) → Road self.now (self.now.tail - 1) w
             → (B.Bank.slots bank.new ≡ carry (B.Bank.slots bank.old) (onto w []) (content_of B.Key.Kind.bytes content)) × (result + 1 ≡ length w) }
         ensures stays { B.Bank.place bank.new ≡ B.Bank.place bank.old }
     {

@@ -34,10 +34,8 @@ impl<B: Bank, R: Rule<B::Key>> PathSearch<'_, '_, B, R> {
         requires filled { (i : ℕ) → Stash (layout self.old.table.now) i → Occupied (contents self.old.table.now) i }
         ensures { Flooded (Seen self.old.frontier) self.old self.new }
     {
-        let table = self.table;
         let link = self.frontier.len() + 1;
-        self.frontier
-            .offer_held(&table.bank, table.stash_start(), table.slot_count());
+        self.offer_stash();
         self.drain(link);
     }
 

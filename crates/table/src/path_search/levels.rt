@@ -36,21 +36,19 @@ impl<B: Bank, R: Rule<B::Key>> PathSearch<'_, '_, B, R> {
     }
 
     // Whether there is a way from the roots to a vacant slot; the last entry is then the end of a
-    // shortest one. The queue grows on the way, so this is a `loop`.
+    // shortest one. The queue grows on the way, so this is a `while`.
     pub(crate) fn levels(&mut self) -> bool
         requires { Roots (contents self.old.table.now) self.old.frontier }
         ensures { Sought (Seen self.old.frontier) self.old self.new result }
     {
         let mut a = 1;
-        'levels: loop {
-            let b = self.frontier.len() + 1;
+        'levels: while a <= self.frontier.len() {
+            let next = self.frontier.len() + 1;
             if self.level(a) {
                 return true;
             }
-            if self.frontier.len() + 1 == b {
-                return false;
-            }
-            a = b;
+            a = next;
         }
+        false
     }
 }

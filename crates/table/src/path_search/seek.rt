@@ -25,9 +25,7 @@ impl<B: Bank, R: Rule<B::Key>> PathSearch<'_, '_, B, R> {
         requires { Fresh self.old.frontier }
         ensures { Sought (Waiting (scene self.old.table.now)) self.old self.new result }
     {
-        let table = self.table;
-        self.frontier
-            .offer_held(&table.bank, table.stash_start(), table.slot_count());
+        self.offer_stash();
         self.levels()
     }
 }

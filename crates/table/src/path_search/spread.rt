@@ -1,11 +1,12 @@
-// The candidates of a key, appended up to the first vacant one.
-ghost use Rattle.std.specs.Prelude.{◌≤◌};
-ghost use Rattle.search.specs.Searches.{Toward};
+// The candidates of a key, appended up to the first vacant one; and the held slots of the stash.
+ghost use Rattle.std.specs.Prelude.{◌≡◌, ◌≤◌};
+ghost use Rattle.search.specs.Searches.{Spread, Toward, Waiting};
 ghost use Rattle.seating.specs.Layouts.{Candidate};
-ghost use Rattle.table.specs.Shapes.{layout};
+ghost use Rattle.table.specs.Shapes.{layout, contents, scene};
 ghost use Rattle.table.specs.Views.{Went};
 
 use crate::path_search::PathSearch;
+use crate::stash::vacant_at;
 use banks::Bank;
 use places::Rule;
 
@@ -30,5 +31,21 @@ impl<B: Bank, R: Rule<B::Key>> PathSearch<'_, '_, B, R> {
             }
         }
         false
+    }
+
+    // Appends the slots of the stash that hold a key, as roots.
+    pub(crate) fn offer_stash(&mut self)
+        ensures table { self.new.table ≡ self.old.table }
+        ensures spread { Spread (contents self.old.table.now) (Toward 0 (Waiting (scene self.old.table.now))) self.old.frontier self.new.frontier }
+    {
+        // a use of the frontier, from which the proof has that it is tidy
+        let _ = self.frontier.len();
+        let table = self.table;
+        let stash = table.stash_slots();
+        for i in stash.start..stash.end {
+            if !vacant_at(&table.bank, i) {
+                self.frontier.push(i, 0);
+            }
+        }
     }
 }

@@ -1,9 +1,10 @@
-use Rattle.std.proofs.Common.{◌≡◌, ℕ, List, subst, sym, refl, inl, inr, arith, rules}
+use Rattle.std.proofs.Common.{◌≡◌, ℕ, List, subst, sym, inl, inr, arith, rules}
 use Rattle.seating.specs.Steps.{blank}
 use Rattle.table.specs.Promises.{PutPromise, put_done}
 use Rattle.table.specs.Shapes.{layout, contents}
 use Rattle.table.specs.Tables.{lent}
 use Rattle.table.proofs.Placing.{place_put, short_put}
+use Rattle.table.proofs.Parts.{kept}
 use Rattle.table.proofs.Table.put.Goals as goal
 
 pub returns-then-work-n : goal.returns-then-work-n
@@ -11,7 +12,7 @@ returns-then-work-n g c =
     let t = c.args.self.now in
     let n = c.slot_count-n.ensures.count in
     record {
-      keeps = record { rule = refl; width = refl; stash = refl; stays = refl };
+      keeps = kept t;
       done = short_put (layout t) (contents t) (g.B.Key.Kind.bytes c.args.key) c.args.value (lent c.args.work.now c.args.list.now)
           (λ r. elim c.then-work-n.either [ inl w ↦ omega (arith, n, r.0) | inr l ↦ omega (arith, n, r.1) ]);
     }

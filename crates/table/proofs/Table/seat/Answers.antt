@@ -12,35 +12,28 @@ carry_out-moved-requires g c =
     let f = rw (c.search_over-search.ensures.table, c.if-found.true) at c.seek_key-found.ensures.1 in
     (f.walk, found_road _ _ _ _ f)
 
-pub returns-then-found : goal.returns-then-found
-returns-then-found g c =
+pub returns-then-found-clause-seats : goal.returns-then-found-clause-seats
+returns-then-found-clause-seats g c =
     let h = scene c.args.self.now in
     let f = rw (c.search_over-search.ensures.table, c.if-found.true) at c.seek_key-found.ensures.1 in
     let e = c.carry_out-moved.ensures.after f.walk (found_road _ _ _ _ f) in
-    record {
-      keeps = record { rule = refl; width = refl; stash = refl; stays = c.carry_out-moved.ensures.stays };
-      seats = (inl (pathed_by h (g.B.Key.Kind.bytes c.args.entry.key) c.args.entry.value _ _ _ _ f e.0 e.1), c.stashed-stashed.ensures, refl);
-    }
+    (rw c.moves.ensures.moved (inl (pathed_by h (g.B.Key.Kind.bytes c.args.entry.key) c.args.entry.value _ _ _ _ f e.0 e.1)), c.moves.ensures.stashed, refl)
 
-pub returns-in-Some : goal.returns-in-Some
-returns-in-Some g c =
+pub returns-in-Some-clause-seats : goal.returns-in-Some-clause-seats
+returns-in-Some-clause-seats g c =
     let h = scene c.args.self.now in
-    let x = rw (c.search_over-search.ensures.table, c.if-found.false) at c.seek_key-found.ensures.1 in
-    record {
-      keeps = record { rule = refl; width = refl; stash = refl; stays = c.write.ensures.stays };
-      seats = (
-        inr (record {
-          none = exhausted_pathless h (g.B.Key.Kind.bytes c.args.entry.key) _ x;
-          slot = c.in-Some.i;
-          stash = c.in-Some.ensures.0;
-          free = c.in-Some.ensures.1;
-          moves = refl;
-          after = c.write.ensures.after;
-        }),
-        c.stashed-stashed-in-Some.ensures,
-        refl,
-      );
-    }
+    let x = rw (c.search_over-search.ensures.table, c.if-found.false) at c.seek_key-found.ensures.1 in (
+      inr (record {
+        none = exhausted_pathless h (g.B.Key.Kind.bytes c.args.entry.key) _ x;
+        slot = c.in-Some.i;
+        stash = c.in-Some.ensures.0;
+        free = c.in-Some.ensures.1;
+        moves = c.moves-in-Some.ensures.moved;
+        after = c.write.ensures.after;
+      }),
+      c.moves-in-Some.ensures.stashed,
+      refl,
+    )
 
 pub list_blocking-requires : goal.list_blocking-requires
 list_blocking-requires g c =
@@ -53,22 +46,11 @@ list_blocking-requires g c =
       long = c.requires.1;
     })
 
-pub returns : goal.returns
-returns g c =
+pub returns-clause-seats : goal.returns-clause-seats
+returns-clause-seats g c =
     let h = scene c.args.self.now in
     let k = g.B.Key.Kind.bytes c.args.entry.key in
     let x = rw c.search_over-search.ensures.table at c.if-found.ensures.1 in
     let same = ap (λ t. t.now) c.if-found.ensures.0 ∙ c.search_over-search.ensures.table in
     let b = (rw same at (c.list_blocking.ensures k)) x in
-    record {
-      keeps = record { rule = refl; width = refl; stash = refl; stays = refl };
-      seats = (
-        record {
-          none = exhausted_pathless h k _ x;
-          filled = λ i s. occupied h.slots i (c.in_default.ensures i s);
-        },
-        refl,
-        b.0,
-        b.1,
-      );
-    }
+    (record { none = exhausted_pathless h k _ x; filled = λ i s. occupied h.slots i (c.in_default.ensures i s) }, refl, b.0, b.1)

@@ -1,4 +1,4 @@
-use Rattle.std.proofs.Common.{refl, inl, inr}
+use Rattle.std.proofs.Common.{inl, inr}
 use Rattle.search.proofs.Bridging.{refilled_by, rested_by}
 use Rattle.search.proofs.Walking.{found_road}
 use Rattle.table.specs.Shapes.{scene}
@@ -9,19 +9,13 @@ carry_out-requires g c =
     let f = rw (c.search_over-search.ensures.table, c.if-found.true) at c.seek_stash-found.ensures.1 in
     (f.walk, found_road _ _ _ _ f)
 
-pub returns-then-found : goal.returns-then-found
-returns-then-found g c =
+pub returns-then-found-clause-settles : goal.returns-then-found-clause-settles
+returns-then-found-clause-settles g c =
     let f = rw (c.search_over-search.ensures.table, c.if-found.true) at c.seek_stash-found.ensures.1 in
     let e = c.carry_out.ensures.after f.walk (found_road _ _ _ _ f) in
-    record {
-      keeps = record { rule = refl; width = refl; stash = refl; stays = c.carry_out.ensures.stays };
-      settles = inr (refilled_by (scene c.args.self.now) _ _ _ _ f e.0 e.1);
-    }
+    inr (refilled_by (scene c.args.self.now) _ _ _ _ f e.0 e.1)
 
-pub returns : goal.returns
-returns g c =
+pub returns-clause-settles : goal.returns-clause-settles
+returns-clause-settles g c =
     let x = rw (c.search_over-search.ensures.table, c.if-found.false) at c.seek_stash-found.ensures.1 in
-    record {
-      keeps = record { rule = refl; width = refl; stash = refl; stays = refl };
-      settles = inl (rested_by (scene c.args.self.now) _ x);
-    }
+    inl (rested_by (scene c.args.self.now) _ x)

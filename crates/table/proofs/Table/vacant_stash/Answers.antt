@@ -10,5 +10,5 @@ pub returns : goal.returns
 returns g c =
     let t = c.args.self.now in
     let xs = contents t in
-    first_in (layout t) xs c.stash_start.result (c.slot_count.result - c.stash_start.result) c.find.result c.stash_start.ensures (omega (arith, c.stash_start.ensures, c.slot_count.ensures.count))
+    first_in (layout t) xs c.stash_slots.result.start (c.stash_slots.result.end - c.stash_slots.result.start) c.find.result c.stash_slots.ensures.start (omega (arith, c.stash_slots.ensures))
     (first_from_find _ _ _ (λ i. is_vacant (at xs i) ≡ true) (λ i. is_vacant (at xs i) ≡ false) c.find.ensures.ran (YieldsList-from_range _ _ _ refl refl) (λ x q k. search (rules, tests)) (λ x q k. search (rules, tests)))

@@ -1,4 +1,4 @@
-use Rattle.std.proofs.Common.{◌≡◌, ◌-◌, ◌≤◌, length}
+use Rattle.std.proofs.Common.{◌≡◌, ◌+◌, ◌-◌, ◌≤◌, length}
 use Rattle.search.specs.Queues.{Seen}
 use Rattle.search.specs.Searches.{Reached}
 use Rattle.table.specs.Shapes.{scene}
@@ -10,4 +10,5 @@ invariant-levels g l =
     (l.self.table ≡ s.table) × Reached (scene s.table.now) (Seen s.frontier) l.self.frontier l.a × (1 ≤ l.a)
 
 abbrev pub decreases-levels : goal.decreases-levels
-decreases-levels g l = length l.self.frontier.seen - l.self.frontier.tail
+decreases-levels g l =
+    (length l.self.frontier.seen - l.self.frontier.tail) + (length l.self.frontier.seen + 1 - l.a)
