@@ -7,7 +7,7 @@ use Rattle.search.specs.Scenes.Way.{last, next}
 use Rattle.search.specs.Searches.{Spread, Struck, Toward, Between, Level, Trail, Found, Exhausted, Reach, Reached, Nowhere, Roots}
 use Rattle.search.proofs.Breadth.{begun, found, exhausted, one_level}
 use Rattle.search.proofs.Bridging.{same_holder}
-use Rattle.search.proofs.Spreading.{spread_none, spread_as, spread_then, spread_one, struck_as}
+use Rattle.search.proofs.Spreading.{spread_as, spread_then, spread_one, struck_as}
 use Rattle.search.proofs.Walking.{trail_root}
 use Rattle.seating.specs.Layouts.{Key, Value, Content, Candidate}
 use Rattle.seating.specs.Layouts.Content.{vacant, holding}
@@ -105,16 +105,6 @@ module _ (h : Scene) (q : Queue) (l p : ℕ) (is : l ≡ suc p) (k : Key) (v : V
       let z : m ≡ l = omega (arith, t.0, t.1) in
       let n : Near h Nowhere (suc (slot q p)) i = subst (λ x. Near h Nowhere (source q x) i) (z ∙ is) t.2 in
       (z, subst (λ x. Candidate h.layout x i) (same_holder _ _ _ _ _ n.2 here) n.3)
-
--- the key of no entry has no candidates
-pub entry_vacant : (h : Scene) (q : Queue) (l p : ℕ) → l ≡ suc p → Tidy q → at h.slots (slot q p) ≡ vacant → Spread h.slots (Level h Nowhere q l (l + 1)) q q
-entry_vacant h q l p is tidy here = spread_none h.slots q tidy none
-  where
-    none : (m i : ℕ) → Level h Nowhere q l (l + 1) m i → ⊥
-    none m i t =
-        let z : m ≡ l = omega (arith, t.0, t.1) in
-        let n : Near h Nowhere (suc (slot q p)) i = subst (λ x. Near h Nowhere (source q x) i) (z ∙ is) t.2 in
-        not_both _ n.0 n.1 here n.2
 
 -- a level below the roots
 module _ (h : Scene) (R : ℕ → Type 0) (q r : Queue) (a : ℕ) (b : Reached h R q a) (some : 1 ≤ a) where

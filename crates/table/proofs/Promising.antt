@@ -1,19 +1,14 @@
 -- From what a call does to a bank to all that it promises.
-use Rattle.std.proofs.Common.{◌≡◌, ℕ, ◌<◌, ◌≤◌, min, cond, ltb, List, [], ◌∷◌, length, Ok, Err, Option, refl, ap, ◌∙◌, arith, length-take, get_or-take}
+use Rattle.std.proofs.Common.{◌≡◌, ℕ, List, [], ◌∷◌, length, Option, ap, ◌∙◌}
 use Rattle.std.specs.Option.{option_map}
-use Rattle.std.proofs.lemmas.Bool.{le-ltb}
-use Rattle.std.proofs.lemmas.Bool.Decides.{nat_tests}
-use Rattle.banks.specs.Slots.{read_of}
-use Rattle.keys.specs.declared.refusal.Refusal.TheVariants.{NoSlot}
 use Rattle.seating.specs.Calls.Call.{drop}
 use Rattle.seating.specs.Fronts.{front}
 use Rattle.seating.specs.Laws.{Sized}
-use Rattle.seating.specs.Layouts.{Key, Value, Content, Layout, slots}
-use Rattle.seating.specs.Layouts.Content.{vacant}
+use Rattle.seating.specs.Layouts.{Key, Value, Content, Layout}
 use Rattle.seating.specs.Lookups.{look_order, lookup}
 use Rattle.seating.specs.Runs.{Ran, fresh}
 use Rattle.seating.specs.Runs.Ran.{begun, dropping}
-use Rattle.seating.specs.Slots.{at, value_of}
+use Rattle.seating.specs.Slots.{value_of}
 use Rattle.seating.specs.Steps.{Lent, MakeDoes, PutAnswer, PutDoes, DropAnswer, DropDoes}
 use Rattle.seating.specs.Steps.MakeAnswer.{made}
 use Rattle.seating.specs.Steps.PutAnswer.{seated, renewed, too_short, full}
@@ -76,16 +71,6 @@ made_new L xs ys d = let r = make_sound_lem L xs ys d in rw r.0 (r.1, begun)
 pub get_answer : (L : Layout) (xs : List Content) (k : Key) (r : Looked Hit) → Sized L → Looks xs k (look_order L k) r
     → (option_map (λ h. h.value) r.found, r.looks) ≡ lookup L (front L xs) k
 get_answer L xs k r sized l = rw (← l.value, ← l.count) (get_front_lem L xs k sized)
-
--- a slot of the table is a slot of the bank
-pub read_front : (L : Layout) (xs : List Content) (i : ℕ) → i < slots L → read_of xs i ≡ read_of (front L xs) i
-read_front L xs i l = rw (get_or-take (slots L) xs i vacant l, length-take (slots L) xs) (ap (λ b. cond b (Ok (at xs i)) (Err NoSlot)) same)
-  where
-    same : ltb i (length xs) ≡ ltb i (min (slots L) (length xs))
-    same = grind (arith, nat_tests)
-
-pub read_past : (L : Layout) (xs : List Content) (i : ℕ) → slots L ≤ i → Err NoSlot ≡ read_of (front L xs) i
-read_past L xs i l = rw (length-take (slots L) xs, le-ltb i (min (slots L) (length xs)) (omega arith)) refl
 
 pub got_map : (L : Layout) (xs : List Content) (k : Key) (o : Option Value) (n : ℕ) → (o, n) ≡ lookup L xs k → Sound L xs → o ≡ value_of xs k
 got_map L xs k o n e s = ap (λ (p : Option Value × ℕ). p.0) e ∙ (get_map_law_lem L xs k s.law).0

@@ -1,16 +1,9 @@
 use Rattle.std.proofs.Common.{refl, ap, ◌∙◌, inl, inr}
 use Rattle.search.proofs.Bridging.{pathed_by, exhausted_pathless}
-use Rattle.search.proofs.Flooded.{exhausted_closed}
 use Rattle.search.proofs.Walking.{found_road}
-use Rattle.seating.specs.Layouts.{Candidate}
 use Rattle.seating.proofs.Sitting.{occupied}
-use Rattle.table.specs.Shapes.{scene}
+use Rattle.table.specs.Shapes.{contents, scene}
 use Rattle.table.proofs.Table.seat.Goals as goal
-
-pub carry_out-moved-requires : goal.carry_out-moved-requires
-carry_out-moved-requires g c =
-    let f = rw (c.search_over-search.ensures.table, c.if-found.true) at c.seek_key-found.ensures.1 in
-    (f.walk, found_road _ _ _ _ f)
 
 pub returns-then-found-clause-seats : goal.returns-then-found-clause-seats
 returns-then-found-clause-seats g c =
@@ -35,16 +28,10 @@ returns-in-Some-clause-seats g c =
       refl,
     )
 
-pub list_blocking-requires : goal.list_blocking-requires
-list_blocking-requires g c =
-    let h = scene c.args.self.now in
-    let x = rw c.search_over-search.ensures.table at c.if-found.ensures.1 in
+pub list_blocking-requires-clause-filled : goal.list_blocking-requires-clause-filled
+list_blocking-requires-clause-filled g c =
     let same = ap (λ t. t.now) c.if-found.ensures.0 ∙ c.search_over-search.ensures.table in
-    rw same (record {
-      closed = exhausted_closed h (Candidate h.layout (g.B.Key.Kind.bytes c.args.entry.key)) _ x;
-      filled = λ i s. occupied h.slots i (c.in_default.ensures i s);
-      long = c.requires.1;
-    })
+    rw same (λ i s. occupied (contents c.args.self.now) i (c.in_default.ensures i s))
 
 pub returns-clause-seats : goal.returns-clause-seats
 returns-clause-seats g c =

@@ -4,11 +4,6 @@ use Rattle.search.proofs.Walking.{found_road}
 use Rattle.table.specs.Shapes.{scene}
 use Rattle.table.proofs.Table.settle.Goals as goal
 
-pub carry_out-requires : goal.carry_out-requires
-carry_out-requires g c =
-    let f = rw (c.search_over-search.ensures.table, c.if-found.true) at c.seek_stash-found.ensures.1 in
-    (f.walk, found_road _ _ _ _ f)
-
 pub returns-then-found-clause-settles : goal.returns-then-found-clause-settles
 returns-then-found-clause-settles g c =
     let f = rw (c.search_over-search.ensures.table, c.if-found.true) at c.seek_stash-found.ensures.1 in

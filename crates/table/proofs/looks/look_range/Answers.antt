@@ -1,8 +1,5 @@
-use Rattle.table.proofs.Looking.{looks_none, range_more, range_hit}
+use Rattle.table.proofs.Looking.{range_more, range_hit}
 use Rattle.table.proofs.looks.look_range.Goals as goal
-
-pub loop-j-init : goal.loop-j-init
-loop-j-init g c = looks_none _ _
 
 pub returns-in-Some : goal.returns-in-Some
 returns-in-Some g c =

@@ -21,11 +21,6 @@ loop-link-preserved-then-not-expand g c =
       omega (arith, c.loop-link-test.true, w.grew.longer),
     )
 
-pub loop-link-smaller : goal.loop-link-smaller
-loop-link-smaller g c =
-    let w = c.if-not-expand.ensures.1 in
-    omega (arith, w.new, w.top, tail_le _ w.grew.sound, w.grew.len)
-
 pub loop-link-preserved : goal.loop-link-preserved
 loop-link-preserved g c =
     let s = c.args.self.now in

@@ -1,5 +1,5 @@
-use Rattle.std.proofs.Common.{suc, ◌≡◌, ◌-◌, sym, refl, arith}
-use Rattle.search.proofs.Rooting.{entry_into, entry_onto, entry_vacant}
+use Rattle.std.proofs.Common.{suc, ◌≡◌, ◌-◌, sym, arith}
+use Rattle.search.proofs.Rooting.{entry_into, entry_onto}
 use Rattle.table.specs.Shapes.{contents, scene}
 use Rattle.table.proofs.Parts.{stepped_as}
 use Rattle.table.proofs.path_search.PathSearch.expand.Goals as goal
@@ -18,9 +18,3 @@ returns g c =
           (entry_onto h s.frontier l (l - 1) is k c.in-Some.entry.value here)
           c.spread.ensures.1,
     )
-
-pub returns-in_default : goal.returns-in_default
-returns-in_default g c =
-    let s = c.args.self.now in
-    let l = c.args.link in
-    (refl, entry_vacant (scene s.table.now) s.frontier l (l - 1) (omega (arith, c.requires)) c.slot.ensures.tidy (rw c.slot.ensures.slot at (sym c.in_default.ensures)))

@@ -13,14 +13,10 @@ loop-i-preserved g c =
       | else-not-vacant_at w ↦ rw w.self-is (i.0, held_skip _ _ _ (omega (arith, c.loop-i.auto.i, c.stash_slots-stash.ensures)) _ _ i.1 (vacant_if _ (sym c.vacant_at.ensures ∙ w.if-not-vacant_at.false)))
     ]
 
-pub returns : goal.returns
-returns g c =
-    let i = c.loop-i.invariant in
+pub returns-clause-spread : goal.returns-clause-spread
+returns-clause-spread g c =
     let o = c.stash_slots-stash.ensures in
-    record {
-      table = i.0;
-      spread = spread_as _ _ _
-          (λ m j t. (t.0, record { stash = (t.1.0.0, omega (arith, o, t.1.0.1, c.loop-i.auto.i-end)); held = t.1.1 }))
-          (λ m j t. (t.0, ((t.1.stash.0, omega (arith, o, t.1.stash.1, c.loop-i-test.false)), t.1.held)))
-          i.1;
-    }
+    spread_as _ _ _
+    (λ m j t. (t.0, record { stash = (t.1.0.0, omega (arith, o, t.1.0.1, c.loop-i.auto.i-end)); held = t.1.1 }))
+    (λ m j t. (t.0, ((t.1.stash.0, omega (arith, o, t.1.stash.1, c.loop-i-test.false)), t.1.held)))
+    c.loop-i.invariant.1
