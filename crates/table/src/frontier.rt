@@ -7,8 +7,8 @@ mod walk;
 use std::marker::Model;
 
 // Three rows, as long as the table has slots: whether a slot was seen, the slot of each entry, and the
-// link of each entry. The rows are lent words, for the project lets a table use no memory of its own,
-// and so a link is a number: 0 for a root, and else one more than the entry that it was reached from.
+// link of each entry, 0 for a root and else one more than the entry that it was reached from. The rows
+// are words of 32 bits that the caller lends, by a rule of the project, so a mark and a link are numbers.
 #[derive(Drop)]
 pub(crate) struct Frontier<'a> {
     seen: &'a mut [u32],

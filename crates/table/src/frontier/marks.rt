@@ -5,7 +5,8 @@ ghost use Rattle.table.specs.Views.{Listed};
 
 use crate::frontier::Frontier;
 
-// Writes the numbers of the marks that are 1 to the front of the list, ascending; how many they are.
+// Writes the numbers of the marks that are 1 to the front of the list, ascending; how many they are. The
+// count is the place to write to as well, so no chain is plainer.
 fn list_marked(marks: &[u32], list: &mut [u32]) -> usize
     requires long { length marks.now ≤ length list.old }
     requires few { length marks.now < 2 ^ 32 }

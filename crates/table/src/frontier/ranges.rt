@@ -15,6 +15,7 @@ impl Frontier<'_> {
         requires back { link ≤ self.old.tail }
         ensures { Stepped (B.Bank.slots bank.now) (Toward link (Between first end)) self.old self.new result }
     {
+        // a field is read, from which the proof has that the queue is tidy
         let _ = &self.tail;
         for i in first..end {
             if self.push(i, link) && vacant_at(bank, i) {

@@ -39,8 +39,8 @@ impl Frontier<'_> {
         ensures slot { result ≡ slot self.now p }
         ensures tidy { Tidy self.now }
     {
-        let _ = &self.tail;
-        self.at[p] as usize
+        let row = &*self.at;
+        row[p] as usize
     }
 
     // The entry that entry p was reached from; a root has none.
@@ -48,11 +48,12 @@ impl Frontier<'_> {
         requires { p < self.now.tail }
         ensures { MatchOption result (link self.now p ≡ 0) (λ b. link self.now p ≡ b + 1) }
     {
-        let _ = &self.tail;
-        (self.from[p] as usize).checked_sub(1)
+        let row = &*self.from;
+        (row[p] as usize).checked_sub(1)
     }
 
-    // Appends slot i under the link, if it was not seen; whether it was appended.
+    // Appends slot i under the link, if it was not seen; whether it was appended. The link changes from
+    // call to call, so that it is not past the tail is asked of it, and is no invariant.
     pub(crate) fn push(&mut self, i: usize, link: usize) -> bool
         requires low { i < length self.old.seen }
         requires back { link ≤ self.old.tail }

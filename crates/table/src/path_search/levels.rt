@@ -21,13 +21,13 @@ impl<B: Bank, R: Rule<B::Key>> PathSearch<'_, '_, B, R> {
         self.spread(&entry.key, link)
     }
 
-    // The same for the links from a on.
-    fn level(&mut self, a: usize) -> bool
-        requires { (1 ≤ a) × (a ≤ self.old.frontier.tail + 1) }
-        ensures { Went (Level (scene self.old.table.now) Nowhere self.old.frontier a (self.old.frontier.tail + 1)) self.old self.new result }
+    // The same for the links from the first on.
+    fn level(&mut self, first: usize) -> bool
+        requires { (1 ≤ first) × (first ≤ self.old.frontier.tail + 1) }
+        ensures { Went (Level (scene self.old.table.now) Nowhere self.old.frontier first (self.old.frontier.tail + 1)) self.old self.new result }
     {
         let end = self.frontier.len() + 1;
-        for link in a..end {
+        for link in first..end {
             if self.expand(link) {
                 return true;
             }
@@ -41,13 +41,13 @@ impl<B: Bank, R: Rule<B::Key>> PathSearch<'_, '_, B, R> {
         requires { Roots (contents self.old.table.now) self.old.frontier }
         ensures { Sought (Seen self.old.frontier) self.old self.new result }
     {
-        let mut a = 1;
-        'levels: while a <= self.frontier.len() {
+        let mut first = 1;
+        'levels: while first <= self.frontier.len() {
             let next = self.frontier.len() + 1;
-            if self.level(a) {
+            if self.level(first) {
                 return true;
             }
-            a = next;
+            first = next;
         }
         false
     }

@@ -17,7 +17,7 @@ impl<B: Bank, R: Rule<B::Key>> PathSearch<'_, '_, B, R> {
         requires { link ≤ self.old.frontier.tail }
         ensures { Went (Toward link (Candidate (layout self.old.table.now) (B.Key.Kind.bytes key.now))) self.old self.new result }
     {
-        // a use of the frontier, from which the proof has that it is tidy
+        // a look at the frontier, from which the proof has that it is tidy
         let _ = self.frontier.len();
         let table = self.table;
         let choices = table.rule.choices(key);
@@ -38,7 +38,7 @@ impl<B: Bank, R: Rule<B::Key>> PathSearch<'_, '_, B, R> {
         ensures table { self.new.table ≡ self.old.table }
         ensures spread { Spread (contents self.old.table.now) (Toward 0 (Waiting (scene self.old.table.now))) self.old.frontier self.new.frontier }
     {
-        // a use of the frontier, from which the proof has that it is tidy
+        // a look at the frontier, from which the proof has that it is tidy
         let _ = self.frontier.len();
         let table = self.table;
         let stash = table.stash_slots();

@@ -7,4 +7,4 @@ abbrev pub invariant-loop-link : goal.invariant-loop-link
 invariant-loop-link g l =
     let s = l.initial.self in
     (l.self.table ≡ s.table)
-    × Spread (contents s.table.now) (Level (scene s.table.now) Nowhere s.frontier l.a l.link) s.frontier l.self.frontier
+    × Spread (contents s.table.now) (Level (scene s.table.now) Nowhere s.frontier l.first l.link) s.frontier l.self.frontier
