@@ -2,7 +2,7 @@
 #![tactic(auto)]
 
 use flows::Flow;
-use lines::next_line;
+use lines::Lines;
 use names::Name;
 use placing::{Outcome, Placer};
 use settings::{KindName, Setting, read_setting};
@@ -13,12 +13,12 @@ use std::io::{BufRead, BufReader, BufWriter, Write};
 use text::Spelled;
 
 // Reads lines until one is a setting.
-fn first_setting<F: BufRead, W: Write>(from: &mut F, out: &mut W) -> io::Result<Option<Setting>> {
-    for _ in 0..u64::MAX {
-        let Some(line) = next_line(from)? else {
-            break;
-        };
-        match read_setting(line.get()) {
+fn first_setting<F: BufRead + Drop, W: Write>(
+    lines: &mut Lines<F>,
+    out: &mut W,
+) -> io::Result<Option<Setting>> {
+    for line in lines {
+        match read_setting(line?.get()) {
             Ok(found) => {
                 out.write_all(b"ok\n")?;
                 return Ok(Some(found));
@@ -65,21 +65,18 @@ fn report<W: Write>(counts: Counts, summary: Summary, out: &mut W) -> io::Result
 }
 
 // Answers all lines that are left, and reports.
-fn place_lines<K: Spelled, F: BufRead, W: Write>(
+fn place_lines<K: Spelled, F: BufRead + Drop, W: Write>(
     heap: Global,
     setting: &Setting,
-    from: &mut F,
+    lines: &mut Lines<F>,
     out: &mut W,
 ) -> io::Result<()> {
     let mut placer = Placer::new::<K>(&setting.rule, setting.seed);
     let mut counts = Counts::default();
     let mut text = Vec::new(heap);
-    for _ in 0..u64::MAX {
-        let Some(line) = next_line(from)? else {
-            break;
-        };
+    for line in lines {
         text.clear();
-        counts.count(placer.answer::<K>(line.get(), &mut text)?);
+        counts.count(placer.answer::<K>(line?.get(), &mut text)?);
         out.write_all(text.as_slice())?;
     }
     report(counts, placer.spread.summary(), out)
@@ -87,12 +84,12 @@ fn place_lines<K: Spelled, F: BufRead, W: Write>(
 
 fn main(rt: HostRuntime) -> io::Result<()> {
     let heap = rt.alloc();
-    let mut from = BufReader::new(heap, rt.stdin())?;
+    let mut lines = Lines::of(BufReader::new(heap, rt.stdin())?);
     let mut out = BufWriter::new(heap, rt.stdout())?;
-    match first_setting(&mut from, &mut out)? {
+    match first_setting(&mut lines, &mut out)? {
         Some(setting) => match setting.kind {
-            KindName::Flow => place_lines::<Flow, _, _>(heap, &setting, &mut from, &mut out)?,
-            KindName::Name => place_lines::<Name, _, _>(heap, &setting, &mut from, &mut out)?,
+            KindName::Flow => place_lines::<Flow, _, _>(heap, &setting, &mut lines, &mut out)?,
+            KindName::Name => place_lines::<Name, _, _>(heap, &setting, &mut lines, &mut out)?,
         },
         None => out.write_all(b"no rule was given, so no key was placed\n")?,
     }
