@@ -87,6 +87,7 @@ fn main(rt: HostRuntime) -> io::Result<()> {
     let mut lines = Lines::of(BufReader::new(heap, rt.stdin())?);
     let mut out = BufWriter::new(heap, rt.stdout())?;
     match first_setting(&mut lines, &mut out)? {
+        // the kind is known only here, so each has its own call
         Some(setting) => match setting.kind {
             KindName::Flow => place_lines::<Flow, _, _>(heap, &setting, &mut lines, &mut out)?,
             KindName::Name => place_lines::<Name, _, _>(heap, &setting, &mut lines, &mut out)?,

@@ -28,7 +28,7 @@ pub enum Refusal {
 }
 
 impl Refusal {
-    // The number by which users know the refusal.
+    // The number by which users know the refusal; inside the library the enum stands for it.
     pub fn number(&self) -> u8
         ensures { result ≡ number_of self.now }
     {

@@ -44,6 +44,7 @@ fn lowest(count: DigitCount, buckets: usize, word: u32) -> Choices
     }
 }
 
+// Written out for each rule: one rule over a scheme would ask as much of the scheme, and a test with its law.
 impl<K: Kind> Rule<K> for Digits {
     ghost count = { digits_count };
 

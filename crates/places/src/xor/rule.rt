@@ -34,6 +34,7 @@ fn partners(buckets: usize, word: u32) -> Choices
     Choices::Two([first, first ^ turn])
 }
 
+// Written out for each rule: one rule over a scheme would ask as much of the scheme, and a test with its law.
 impl<K: Kind> Rule<K> for Xor {
     ghost count = { xor_count };
 
