@@ -1,3 +1,4 @@
 // Examples, run.
 mod examples;
+mod inputs;
 mod texts;
