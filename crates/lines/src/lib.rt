@@ -25,7 +25,7 @@ enum Piece {
     More,
 }
 
-// Where the first line feed stands.
+// Where the first line feed stands. `numerals` finds any mark, but no line needs numbers.
 fn find_feed(piece: &[u8]) -> Option<usize>
     ensures { result ≡ position (λ b. b == 10) piece.now }
 {
@@ -64,5 +64,6 @@ pub fn next_line<R: BufRead>(from: &mut R) -> io::Result<Option<Line>>
             Piece::End => return Ok((taken > 0).then_some(line)),
         }
     }
+    // more pieces than any input has
     Err(ErrorKind::Other.into())
 }
