@@ -1,5 +1,5 @@
 -- The first line: `RULE n z KIND`.
-use Rattle.std.specs.Prelude.{ℕ, ◌^◌, cond, List, drop, Some, None, codes, Option, nat_eq}
+use Rattle.std.specs.Prelude.{ℕ, ◌^◌, List, drop, Some, None, codes, Option, nat_eq, if◌then◌else◌}
 use Rattle.std.specs.List.{starts_with}
 use Rattle.std.specs.Str.{bytes_eq}
 use Rattle.rules.specs.declared.builtin.RuleName.{RuleName}
@@ -12,13 +12,16 @@ use Rattle.settings.specs.declared.header.KindName.TheVariants.{Flow, Name}
 -- the rule whose name stands in front, and what stands behind the space
 abbrev pub rule_word_lem : List ℕ → Option (RuleName × List ℕ)
 rule_word_lem s =
-    cond (starts_with nat_eq s (codes "two ")) (Some (Two, drop 4 s))
-    (cond (starts_with nat_eq s (codes "dig2 ")) (Some (Dig2, drop 5 s))
-    (cond (starts_with nat_eq s (codes "dig3 ")) (Some (Dig3, drop 5 s))
-    (cond (starts_with nat_eq s (codes "xor ")) (Some (Xor, drop 4 s)) None)))
+    if starts_with nat_eq s (codes "two ") then Some (Two, drop 4 s)
+    else (if starts_with nat_eq s (codes "dig2 ") then Some (Dig2, drop 5 s)
+    else (if starts_with nat_eq s (codes "dig3 ") then Some (Dig3, drop 5 s)
+    else (if starts_with nat_eq s (codes "xor ") then Some (Xor, drop 4 s) else None)))
 
+-- the kind of key that a word names
 abbrev pub kind_word_lem : List ℕ → Option KindName
-kind_word_lem s = cond (bytes_eq s (codes "flow")) (Some Flow) (cond (bytes_eq s (codes "name")) (Some Name) None)
+kind_word_lem s =
+    if bytes_eq s (codes "flow") then Some Flow
+    else (if bytes_eq s (codes "name") then Some Name else None)
 
 -- a rule, the number of buckets, a seed and a kind, parted by single spaces
 abbrev pub header_of : List ℕ → Option Header
