@@ -5,7 +5,7 @@ ghost use Rattle.seating.specs.Layouts.{Key};
 ghost use Rattle.keys.specs.declared.refusal.Refusal.{Refusal};
 
 use keys::{Kind, Refusal};
-use std::alloc::{AllocError, Global};
+use std::alloc::AllocError;
 
 mod flow;
 mod name;
@@ -23,7 +23,7 @@ pub trait Spelled: Kind {
         ensures { result_map_both Self.Kind.bytes (λ e. e) result ≡ reads s.now };
 
     // Appends the text of the key.
-    fn write(&self, heap: Global, out: &mut Vec<u8>) -> Result<(), AllocError>
+    fn write(&self, out: &mut Vec<u8>) -> Result<(), AllocError>
         ensures { out.new.items ≡ (if is_ok result then out.old.items ++ text (Self.Kind.bytes self.now) else out.old.items) };
 
     // a key that is written and read is that key

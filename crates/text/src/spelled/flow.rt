@@ -14,7 +14,7 @@ use crate::spelled::Spelled;
 use flow_text::read_flow;
 use flows::Flow;
 use keys::Refusal;
-use std::alloc::{AllocError, Global};
+use std::alloc::AllocError;
 
 impl Spelled for Flow {
     ghost text = { flow_as_text };
@@ -29,9 +29,10 @@ impl Spelled for Flow {
         read_flow(s).ok_or(Refusal::BadLine)
     }
 
-    fn write(&self, heap: Global, out: &mut Vec<u8>) -> Result<(), AllocError> {
+    fn write(&self, out: &mut Vec<u8>) -> Result<(), AllocError> {
+        // by a text of its own: of a vector after a failed `write!` nothing is promised
         let flow = ShownFlow(*self);
-        let text = format!(in heap; "{flow}")?;
+        let text = format!(in *out.allocator(); "{flow}")?;
         out.extend_from_slice(text.as_bytes())
     }
 }

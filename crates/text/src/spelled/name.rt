@@ -5,7 +5,7 @@ ghost use Rattle.std.proofs.Common.{rules};
 use crate::spelled::Spelled;
 use keys::Refusal;
 use names::Name;
-use std::alloc::{AllocError, Global};
+use std::alloc::AllocError;
 
 impl Spelled for Name {
     ghost text = { λ k. k };
@@ -20,7 +20,7 @@ impl Spelled for Name {
         Name::new(s)
     }
 
-    fn write(&self, _heap: Global, out: &mut Vec<u8>) -> Result<(), AllocError> {
+    fn write(&self, out: &mut Vec<u8>) -> Result<(), AllocError> {
         out.extend_from_slice(self.as_bytes())
     }
 }

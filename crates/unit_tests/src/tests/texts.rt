@@ -91,7 +91,7 @@ fn flows_written_as_read(rt: HostRuntime) -> Result<(), Fail> {
             return Err(Fail::new("not read"));
         };
         let mut out = Vec::new(heap);
-        flow.write(heap, &mut out)?;
+        flow.write(&mut out)?;
         assert!(rt; out.as_slice() == *text);
     }
     Ok(())
