@@ -1,5 +1,6 @@
 // Flows: who sends to whom, by address and port, and under which protocol.
 mod kind;
+mod text;
 
 #[derive(Clone, Copy, Debug, PartialEq, Eq)]
 pub struct Flow {

@@ -11,7 +11,8 @@ use Rattle.std.specs.Net.Text.{dotted_text}
 use Rattle.keys.specs.Bytes.{two}
 use Rattle.flows.specs.Flows.{flow_bytes}
 use Rattle.flows.specs.declared.flow.Flow.{Flow}
-use Rattle.flow_text.specs.FlowText.{flow_as_text, address, endpoint}
+use Rattle.flows.specs.FlowText.{flow_as_text}
+use Rattle.flow_text.specs.FlowText.{address, endpoint}
 use Rattle.flow_text.proofs.Addresses.{Address, address_back, address_exact}
 use Rattle.text.specs.Laws.{FlowKey, FlowsReadBack, FlowsExact}
 use Rattle.numerals.specs.Parts.{below, part}

@@ -2,7 +2,8 @@
 use Rattle.std.specs.Prelude.{◌≡◌, ℕ, ◌<◌, List, length, Some}
 use Rattle.std.specs.List.{AllByRecursion}
 use Rattle.seating.specs.Layouts.{Key}
-use Rattle.flow_text.specs.FlowText.{flow_as_text, flow_from}
+use Rattle.flows.specs.FlowText.{flow_as_text}
+use Rattle.flow_text.specs.FlowText.{flow_from}
 
 -- a flow's key has 13 bytes
 pub record FlowKey (k : Key) : Type 0 where

@@ -1,9 +1,7 @@
 // Text of keys.
 #![tactic(auto)]
 
-pub mod display;
 pub mod laws;
 pub mod spelled;
 
-pub use display::ShownFlow;
 pub use spelled::Spelled;

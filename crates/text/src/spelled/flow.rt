@@ -1,7 +1,8 @@
 // The text of a flow.
 ghost use Rattle.std.specs.Option.{ok_or};
 ghost use Rattle.keys.specs.declared.refusal.Refusal.TheVariants.{BadLine};
-ghost use Rattle.flow_text.specs.FlowText.{flow_as_text, flow_from};
+ghost use Rattle.flow_text.specs.FlowText.{flow_from};
+ghost use Rattle.flows.specs.FlowText.{flow_as_text};
 ghost use Rattle.std.proofs.Common.{ap};
 ghost use Rattle.std.specs.Prelude.{Option};
 ghost use Rattle.seating.specs.Layouts.{Key};
@@ -9,7 +10,6 @@ ghost use Rattle.flows.specs.Flows.{flow_bytes};
 ghost use Rattle.text.specs.FlowTexts.{flow_key, flows_read_back_lem, flows_exact_lem};
 ghost use Rattle.text.specs.FlowSpelledLemmas.{some_from_ok};
 
-use crate::display::ShownFlow;
 use crate::spelled::Spelled;
 use flow_text::read_flow;
 use flows::Flow;
@@ -31,8 +31,7 @@ impl Spelled for Flow {
 
     fn write(&self, out: &mut Vec<u8>) -> Result<(), AllocError> {
         // by a text of its own: of a vector after a failed `write!` nothing is promised
-        let flow = ShownFlow(*self);
-        let text = format!(in *out.allocator(); "{flow}")?;
+        let text = format!(in *out.allocator(); "{self}")?;
         out.extend_from_slice(text.as_bytes())
     }
 }

@@ -8,7 +8,7 @@ use Rattle.std.specs.declared.net.ipv4_addr.Ipv4Addr.{Ipv4Addr}
 use Rattle.keys.specs.Bytes.{four}
 use Rattle.flows.specs.Flows.{flow_bytes}
 use Rattle.flows.specs.declared.flow.Flow.{Flow}
-use Rattle.flow_text.specs.FlowText.{flow_as_text}
+use Rattle.flows.specs.FlowText.{flow_as_text}
 
 octets_of_bits : (a : Ipv4Addr) (n : ℕ) → IsIpv4OfBits a n → ipv4_octets a ≡ four n []
 unfolding IsIpv4OfBits
