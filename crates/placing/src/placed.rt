@@ -39,11 +39,10 @@ impl<K: Spelled> Placed<K> {
             ++ (place_text (K.Spelled.text (K.Kind.bytes self.now.key)) self.now.word
             (listed self.now.choices) ++ codes "\n")) }
     {
-        let heap = *out.allocator();
-        self.key.write(heap, out)?;
+        self.key.write(out)?;
         let word = self.word;
         let buckets = Buckets(self.choices.as_slice());
-        let text = format!(in heap; " 0x{word:08x}{buckets}\n")?;
+        let text = format!(in *out.allocator(); " 0x{word:08x}{buckets}\n")?;
         out.extend_from_slice(text.as_bytes())
     }
 }

@@ -12,7 +12,7 @@ pub enum KindName {
     Name,
 }
 
-#[derive(Clone, Copy)]
+#[derive(Clone, Copy, Debug, PartialEq, Eq)]
 pub struct Header {
     pub rule: RuleName,
     pub buckets: u64,

@@ -7,7 +7,7 @@ use crate::header::{Header, KindName, read_header};
 use keys::Refusal;
 use rules::Builtin;
 
-#[derive(Clone, Copy)]
+#[derive(Clone, Copy, Debug)]
 pub struct Setting {
     pub rule: Builtin,
     pub seed: u32,
