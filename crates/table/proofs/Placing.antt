@@ -2,7 +2,7 @@
 use Rattle.std.proofs.Common.{◌≡◌, ℕ, ◌*◌, ◌<◌, ◌≤◌, ◌⊎◌, List, length, set, Some, None, Ok, Err, Option, Result, subst, refl, ap, inl, inr, MatchOption}
 use mathlib.Core.List.{Memᴰ}
 use Rattle.keys.specs.declared.refusal.Refusal.{Refusal}
-use Rattle.keys.specs.declared.refusal.Refusal.TheVariants.{Size, BankShort, LentShort, Full, NoSlot, NotHeld, NameLength, BadLine, OutOfTurn}
+use Rattle.keys.specs.declared.refusal.Refusal.TheVariants.{Full}
 use Rattle.seating.specs.Laws.{Sized}
 use Rattle.seating.specs.Layouts.{Key, Value, Content, Layout, slots}
 use Rattle.seating.specs.Layouts.Content.{vacant, holding}
@@ -42,14 +42,7 @@ module _ (L : Layout) (xs : List Content) (k : Key) (v : Value) (work was : List
   seat_put (Ok (In m)) ys is miss (w, n, e) = put_promise L xs k v (lent work was) (seated m.moved m.stashed) ys (lent (blank work) is) (room, miss, w, n, ap (lent (blank work)) e)
   seat_put (Err (Full c)) ys is miss (st, y, n, e) = put_promise L xs k v (lent work was) (full c) ys (lent (blank work) is) (room, miss, st, y, n, ap (lent (blank work)) e)
   seat_put (Ok Renewed) ys is miss d = absurd d
-  seat_put (Err Size) ys is miss d = absurd d
-  seat_put (Err BankShort) ys is miss d = absurd d
-  seat_put (Err LentShort) ys is miss d = absurd d
-  seat_put (Err NoSlot) ys is miss d = absurd d
-  seat_put (Err NotHeld) ys is miss d = absurd d
-  seat_put (Err NameLength) ys is miss d = absurd d
-  seat_put (Err BadLine) ys is miss d = absurd d
-  seat_put (Err OutOfTurn) ys is miss d = absurd d
+  seat_put (Err _) ys is miss d = absurd d
 
   pub place_put : (r : Result Seated Refusal) (ys : List Content) (is : List ℕ) → PlaceDoes L xs k v was r ys is
       → put_done (λ a. PutPromise L xs k v (lent work was) a ys (lent (blank work) is)) r

@@ -11,8 +11,8 @@ use Rattle.seating.specs.Runs.Ran.{begun, dropping}
 use Rattle.seating.specs.Slots.{value_of}
 use Rattle.seating.specs.Steps.{Lent, MakeDoes, PutAnswer, PutDoes, DropAnswer, DropDoes}
 use Rattle.seating.specs.Steps.MakeAnswer.{made}
-use Rattle.seating.specs.Steps.PutAnswer.{seated, renewed, too_short, full}
-use Rattle.seating.specs.Steps.DropAnswer.{dropped, too_short as lentShort, not_held}
+use Rattle.seating.specs.Steps.PutAnswer.{seated}
+use Rattle.seating.specs.Steps.DropAnswer.{dropped}
 use Rattle.seating.specs.Tables.{Sound}
 use Rattle.seating.proofs.Fronting.{put_front, drop_front_lem, get_front_lem}
 use Rattle.seating.proofs.Keeping.{put_sound_lem, drop_sound_lem}
@@ -29,9 +29,7 @@ use Rattle.table.specs.declared.looks.Hit.{Hit}
 put_shows : (L : Layout) (xs : List Content) (k : Key) (v : Value) (was : Lent) (a : PutAnswer) (ys : List Content) (is : Lent)
     → PutDoes L xs k v was a ys is → Sound L xs → PutShows a xs ys
 put_shows L xs k v was (seated m s) ys is d g = put_moves_lem L xs k v was m s ys is d g
-put_shows L xs k v was renewed ys is d g = tt
-put_shows L xs k v was too_short ys is d g = tt
-put_shows L xs k v was (full c) ys is d g = tt
+put_shows L xs k v was _ ys is d g = tt
 
 pub put_promise : (L : Layout) (xs : List Content) (k : Key) (v : Value) (was : Lent) (a : PutAnswer) (ys : List Content) (is : Lent)
     → PutDoes L xs k v was a ys is → PutPromise L xs k v was a ys is
@@ -48,8 +46,7 @@ put_promise L xs k v was a ys is d =
 drop_shows : (L : Layout) (xs : List Content) (k : Key) (was : List ℕ) (a : DropAnswer) (ys : List Content) (is : List ℕ)
     → DropDoes L xs k was a ys is → Sound L xs → DropShows a xs ys
 drop_shows L xs k was (dropped m s) ys is d g = drop_moves_lem L xs k was m s ys is d g
-drop_shows L xs k was lentShort ys is d g = tt
-drop_shows L xs k was not_held ys is d g = tt
+drop_shows L xs k was _ ys is d g = tt
 
 pub drop_promise : (L : Layout) (xs : List Content) (k : Key) (was : List ℕ) (a : DropAnswer) (ys : List Content) (is : List ℕ)
     → DropDoes L xs k was a ys is → DropPromise L xs k was a ys is

@@ -1,7 +1,7 @@
 -- What a put and a drop promise of the slots of a bank, by their answers.
 use Rattle.std.specs.Prelude.{◌≡◌, ℕ, ◌⊎◌, List, ◌∷◌, ◌++◌, length, drop as past, Ok, Err, Result, slice_set}
 use Rattle.keys.specs.declared.refusal.Refusal.{Refusal}
-use Rattle.keys.specs.declared.refusal.Refusal.TheVariants.{Size, BankShort, LentShort, Full, NoSlot, NotHeld, NameLength, BadLine, OutOfTurn}
+use Rattle.keys.specs.declared.refusal.Refusal.TheVariants.{LentShort, Full, NotHeld}
 use Rattle.seating.specs.Blocking.{blocking}
 use Rattle.seating.specs.Calls.{Call, Nothing, Holds}
 use Rattle.seating.specs.Calls.Call.{drop}
@@ -22,9 +22,7 @@ use Rattle.table.specs.declared.Seated.TheVariants.{In, Renewed}
 -- the moves that a put answers are shown by the slots
 abbrev pub PutShows : PutAnswer → List Content → List Content → Type 0
 PutShows (seated m s) xs ys = m ≡ moved xs ys
-PutShows renewed xs ys = Unit {0}
-PutShows too_short xs ys = Unit {0}
-PutShows (full c) xs ys = Unit {0}
+PutShows _ xs ys = Unit {0}
 
 -- a put on a bank with the slots xs, which has the slots ys then
 pub record PutPromise (L : Layout) (xs : List Content) (k : Key) (v : Value) (was : Lent) (a : PutAnswer) (ys : List Content) (is : Lent) : Type 0 where
@@ -41,18 +39,12 @@ put_done P (Ok (In m)) = P (seated m.moved m.stashed)
 put_done P (Ok Renewed) = P renewed
 put_done P (Err LentShort) = P too_short
 put_done P (Err (Full c)) = P (full c)
-put_done P (Err Size) = ⊥
-put_done P (Err BankShort) = ⊥
-put_done P (Err NoSlot) = ⊥
-put_done P (Err NotHeld) = ⊥
-put_done P (Err NameLength) = ⊥
-put_done P (Err BadLine) = ⊥
-put_done P (Err OutOfTurn) = ⊥
+put_done P (Err _) = ⊥
 
+-- and those that a drop answers
 abbrev pub DropShows : DropAnswer → List Content → List Content → Type 0
 DropShows (dropped m s) xs ys = m ≡ moved xs ys
-DropShows lentShort xs ys = Unit {0}
-DropShows not_held xs ys = Unit {0}
+DropShows _ xs ys = Unit {0}
 
 -- a drop on a bank with the slots xs, which has the slots ys then
 pub record DropPromise (L : Layout) (xs : List Content) (k : Key) (was : List ℕ) (a : DropAnswer) (ys : List Content) (is : List ℕ) : Type 0 where
@@ -68,13 +60,7 @@ abbrev pub drop_done : (DropAnswer → Type 0) → Result Moves Refusal → Type
 drop_done P (Ok m) = P (dropped m.moved m.stashed)
 drop_done P (Err LentShort) = P lentShort
 drop_done P (Err NotHeld) = P not_held
-drop_done P (Err (Full c)) = ⊥
-drop_done P (Err Size) = ⊥
-drop_done P (Err BankShort) = ⊥
-drop_done P (Err NoSlot) = ⊥
-drop_done P (Err NameLength) = ⊥
-drop_done P (Err BadLine) = ⊥
-drop_done P (Err OutOfTurn) = ⊥
+drop_done P (Err _) = ⊥
 
 -- a key that is not held was seated, or is refused
 abbrev pub SeatDoes : Layout → List Content → Key → Value → List ℕ → Result Seated Refusal → List Content → List ℕ → Type 0
@@ -83,14 +69,7 @@ SeatDoes L xs k v was (Ok (In m)) ys is =
 SeatDoes L xs k v was (Ok Renewed) ys is = ⊥
 SeatDoes L xs k v was (Err (Full c)) ys is =
     Stuck L xs k × (ys ≡ xs) × (c ≡ length (blocking L xs k)) × (is ≡ blocking L xs k ++ past c was)
-SeatDoes L xs k v was (Err LentShort) ys is = ⊥
-SeatDoes L xs k v was (Err Size) ys is = ⊥
-SeatDoes L xs k v was (Err BankShort) ys is = ⊥
-SeatDoes L xs k v was (Err NoSlot) ys is = ⊥
-SeatDoes L xs k v was (Err NotHeld) ys is = ⊥
-SeatDoes L xs k v was (Err NameLength) ys is = ⊥
-SeatDoes L xs k v was (Err BadLine) ys is = ⊥
-SeatDoes L xs k v was (Err OutOfTurn) ys is = ⊥
+SeatDoes L xs k v was (Err _) ys is = ⊥
 
 -- a put with enough lent memory: a held key has a new value, and another is seated or refused
 abbrev pub PlaceDoes : Layout → List Content → Key → Value → List ℕ → Result Seated Refusal → List Content → List ℕ → Type 0

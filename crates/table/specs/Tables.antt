@@ -3,7 +3,7 @@ use Rattle.std.specs.Prelude.{◌≡◌, ℕ, List, [], Ok, Err, Result}
 use Rattle.banks.specs.declared.bank.Bank as Banks
 use Rattle.keys.specs.declared.kind.Kind as Kinds
 use Rattle.keys.specs.declared.refusal.Refusal.{Refusal}
-use Rattle.keys.specs.declared.refusal.Refusal.TheVariants.{Size, BankShort, LentShort, Full, NoSlot, NotHeld, NameLength, BadLine, OutOfTurn}
+use Rattle.keys.specs.declared.refusal.Refusal.TheVariants.{Size, BankShort}
 use Rattle.places.specs.declared.rule.Rule as Rules
 use Rattle.seating.specs.Fronts.{front}
 use Rattle.seating.specs.Layouts.{Key, Value, Content, Layout}
@@ -35,13 +35,7 @@ pub record Made {B R K Q : Type 0} {gb : Banks.Ghosts B K Q} {gk : Kinds.Ghosts 
 abbrev pub MakeRefused : Layout → List Content → Refusal → Type 0
 MakeRefused L xs Size = MakeDoes L xs bad_size xs
 MakeRefused L xs BankShort = MakeDoes L xs bank_short xs
-MakeRefused L xs LentShort = ⊥
-MakeRefused L xs (Full c) = ⊥
-MakeRefused L xs NoSlot = ⊥
-MakeRefused L xs NotHeld = ⊥
-MakeRefused L xs NameLength = ⊥
-MakeRefused L xs BadLine = ⊥
-MakeRefused L xs OutOfTurn = ⊥
+MakeRefused L xs _ = ⊥
 
 -- making: a table, or why there is none, the bank and the rule given back as they were
 abbrev pub MakeTells : {B R K Q : Type 0} {gb : Banks.Ghosts B K Q} {gk : Kinds.Ghosts K Q} {gr : Rules.Ghosts R K Q}
