@@ -3,20 +3,12 @@ use Rattle.std.proofs.Common.{◌≡◌, ℕ, zero, suc, ◌+◌, ◌<◌, ◌�
 use Rattle.std.proofs.lemmas.Bool.{cases_lt}
 use Rattle.search.specs.Queues.{Queue, Seen, slot, link, source, Grew}
 use Rattle.search.specs.Scenes.{Scene, Near}
-use Rattle.search.specs.Searches.{Spread, Toward, Level, Nowhere, Exhausted, Closed, Flooding, Before, Waiting}
+use Rattle.search.specs.Searches.{Spread, Toward, Level, Nowhere, Closed, Flooding, Before, Waiting}
 use Rattle.search.proofs.Breadth.{same_source}
 use Rattle.search.proofs.Rooting.{level_any, near_as, near_back}
 use Rattle.search.proofs.Spreading.{stays_seen, grew_as}
 use Rattle.seating.specs.Layouts.{Stash}
 use Rattle.seating.specs.Slots.{Occupied}
-
--- a search that found nothing leaves a closed set
-pub exhausted_closed : (h : Scene) (R : ℕ → Type 0) (q : Queue) → Exhausted h R q → Closed h q
-exhausted_closed h R q x = record {
-  sound = x.sound;
-  linked = λ p b l e. subst (λ m. Near h R (source q m) (slot q p)) e (x.linked p l);
-  shut = x.shut;
-}
 
 -- the slots of the stash were added to a closed set
 module _ (h : Scene) (q r : Queue) (s : Closed h q) (w : Spread h.slots (Toward 0 (Waiting h)) q r) where

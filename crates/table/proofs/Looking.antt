@@ -43,9 +43,6 @@ cases_as (Some x) f g c = g x c
 abbrev pub unfound : ℕ → Looked Hit
 unfound n = record { found = None; looks = n }
 
-pub looks_none : (xs : List Content) (k : Key) → Looks xs k [] (unfound 0)
-looks_none xs k = record { value = refl; count = refl; slot = λ i m. absurd (Memᴰ.not-nil m) }
-
 -- some slots in vain, then others
 pub looks_then : (xs : List Content) (k : Key) (is js : List ℕ) (n : ℕ) (t : Looked Hit) → Looks xs k is (unfound n) → Looks xs k js t
     → Looks xs k (is ++ js) (record { found = t.found; looks = n + t.looks })

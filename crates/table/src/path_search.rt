@@ -15,7 +15,7 @@ use crate::frontier::rows::frontier_over;
 use banks::Bank;
 use places::Rule;
 
-// The slots that the search has come to, each row as long as the table.
+// A table, and the slots of it that the search has come to, in rows as long as the table.
 #[derive(Drop)]
 pub(crate) struct PathSearch<'a, 'w, B: Bank, R: Rule<B::Key>> {
     pub(crate) table: &'a Table<B, R>,

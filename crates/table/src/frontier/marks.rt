@@ -28,7 +28,7 @@ impl Frontier<'_> {
         requires { length self.now.seen ≤ length list.old }
         ensures { Listed (marked_below self.now.seen (length self.now.seen)) list.old result list.new }
     {
-        let seen: &[u32] = &*self.seen;
+        let seen = &*self.seen;
         list_marked(seen, list)
     }
 }
