@@ -4,21 +4,19 @@ use lib.Seq.{set_at, append_snoc}
 use Rattle.std.specs.List.{range_with_len}
 use Rattle.std.proofs.lemmas.List.Elements.{filter-append}
 use Rattle.search.specs.Searches.{marked, marked_below}
+use Rattle.table.specs.Views.{Listed}
 use Rattle.table.proofs.Ranges.{range_end}
 
 marked_more : (marks : List ℕ) (n : ℕ) (b : Bool) → marked marks n ≡ b → marked_below marks (n + 1) ≡ marked_below marks n ++ cond b (n ∷ []) []
 marked_more marks n b e = ap (filter (marked marks)) (sym (range_end n)) ∙ filter-append (marked marks) (range_with_len 0 n) (n ∷ []) ∙ rw e refl
 
-abbrev pub Fronted : List ℕ → ℕ → List ℕ → List ℕ → ℕ → Type 0
-Fronted marks n was is r = (r ≡ length (marked_below marks n)) × (is ≡ marked_below marks n ++ drop r was)
-
-pub marked_not : (marks : List ℕ) (n : ℕ) (was is : List ℕ) (r : ℕ) → marked marks n ≡ false → Fronted marks n was is r → Fronted marks (n + 1) was is r
+pub marked_not : (marks : List ℕ) (n : ℕ) (was is : List ℕ) (r : ℕ) → marked marks n ≡ false → Listed (marked_below marks n) was r is → Listed (marked_below marks (n + 1)) was r is
 marked_not marks n was is r e l =
     let m : marked_below marks (n + 1) ≡ marked_below marks n = marked_more marks n false e ∙ append-nil (marked_below marks n) in
     (l.0 ∙ ap length (sym m), l.1 ∙ ap (λ x. x ++ drop r was) (sym m))
 
 pub marked_too : (marks : List ℕ) (n : ℕ) (was is : List ℕ) (r : ℕ) → marked marks n ≡ true → r < length was
-    → Fronted marks n was is r → Fronted marks (n + 1) was (set is r n) (r + 1)
+    → Listed (marked_below marks n) was r is → Listed (marked_below marks (n + 1)) was (r + 1) (set is r n)
 marked_too marks n was is r e h l =
     let m = marked_more marks n true e in
     let front = marked_below marks n in (
