@@ -6,7 +6,7 @@ ghost use Rattle.table.specs.Shapes.{layout, contents};
 ghost use Rattle.table.specs.Tables.{Keeps, DropTells};
 
 use crate::blank::Blank;
-use crate::path_search::{PathSearch, search_over};
+use crate::path_search::PathSearch;
 use crate::{Moves, Table};
 use banks::Bank;
 use keys::Refusal;
@@ -20,7 +20,7 @@ impl<B: Bank, R: Rule<B::Key>> Table<B, R> {
         ensures keeps { Keeps self.old self.new }
         ensures settles { Rested (layout self.old) (contents self.old) result (contents self.new) ⊎ Refilled (layout self.old) (contents self.old) result (contents self.new) }
     {
-        let mut search = search_over(self, work);
+        let mut search = PathSearch::new(self, work);
         let found = search.seek_stash();
         let PathSearch { table: _, frontier } = search;
         if found {

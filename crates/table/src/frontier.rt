@@ -1,7 +1,7 @@
 // The slots that a search has come to, as a queue in lent words.
 mod marks;
 mod ranges;
-pub(crate) mod rows;
+mod rows;
 mod walk;
 
 use std::marker::Model;

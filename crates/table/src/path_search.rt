@@ -11,7 +11,6 @@ mod spread;
 
 use crate::Table;
 use crate::frontier::Frontier;
-use crate::frontier::rows::frontier_over;
 use banks::Bank;
 use places::Rule;
 
@@ -23,15 +22,14 @@ pub(crate) struct PathSearch<'a, 'w, B: Bank, R: Rule<B::Key>> {
     ghost rows: { length frontier.seen ≡ slots (layout table.now) },
 }
 
-// A search of the table that has come to no slot yet, in the lent words.
-pub(crate) fn search_over<'a, 'w, B: Bank, R: Rule<B::Key>>(
-    table: &'a Table<B, R>,
-    words: &'w mut [u32],
-) -> PathSearch<'a, 'w, B, R>
-    requires { 3 * slots (layout table.now) ≤ length words.old }
-    ensures table { result.table.now ≡ table.now }
-    ensures fresh { Fresh result.frontier }
-{
-    let frontier = frontier_over(words, table.slot_count());
-    PathSearch { table, frontier }
+impl<'a, 'w, B: Bank, R: Rule<B::Key>> PathSearch<'a, 'w, B, R> {
+    // A search of the table that has come to no slot yet, in the lent words.
+    pub(crate) fn new(table: &'a Table<B, R>, words: &'w mut [u32]) -> PathSearch<'a, 'w, B, R>
+        requires { 3 * slots (layout table.now) ≤ length words.old }
+        ensures table { result.table.now ≡ table.now }
+        ensures fresh { Fresh result.frontier }
+    {
+        let frontier = Frontier::new(words, table.slot_count());
+        PathSearch { table, frontier }
+    }
 }

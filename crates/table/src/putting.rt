@@ -5,7 +5,7 @@ ghost use Rattle.table.specs.Shapes.{layout, contents};
 ghost use Rattle.table.specs.Tables.{Keeps, PutTells, lent};
 
 use crate::blank::Blank;
-use crate::path_search::{PathSearch, search_over};
+use crate::path_search::PathSearch;
 use crate::{Seated, Table};
 use banks::{Bank, Entry};
 use keys::Refusal;
@@ -23,7 +23,7 @@ impl<B: Bank, R: Rule<B::Key>> Table<B, R> {
         ensures keeps { Keeps self.old self.new }
         ensures seats { SeatDoes (layout self.old) (contents self.old) (B.Key.Kind.bytes entry.key) entry.value list.old result (contents self.new) list.new }
     {
-        let mut search = search_over(self, work);
+        let mut search = PathSearch::new(self, work);
         let found = search.seek_key(&entry.key);
         if found {
             let PathSearch { table: _, frontier } = search;

@@ -4,26 +4,26 @@ ghost use Rattle.search.specs.Queues.{Tidy, Fresh, Offered, slot, link};
 
 use crate::frontier::Frontier;
 
-// An empty frontier of n slots in the first words.
-pub(crate) fn frontier_over(words: &mut [u32], n: usize) -> Frontier<'_>
-    requires long { 3 * n ≤ length words.old }
-    requires few { n < 2 ^ 32 }
-    ensures fresh { Fresh result }
-    ensures rows { length result.seen ≡ n }
-{
-    let (seen, rest) = words.split_at_mut(n);
-    let (at, rest) = rest.split_at_mut(n);
-    let (from, _) = rest.split_at_mut(n);
-    seen.fill(0);
-    Frontier {
-        seen,
-        at,
-        from,
-        tail: 0,
+impl<'a> Frontier<'a> {
+    // An empty frontier of n slots in the first words.
+    pub(crate) fn new(words: &'a mut [u32], n: usize) -> Frontier<'a>
+        requires long { 3 * n ≤ length words.old }
+        requires few { n < 2 ^ 32 }
+        ensures fresh { Fresh result }
+        ensures rows { length result.seen ≡ n }
+    {
+        let (seen, rest) = words.split_at_mut(n);
+        let (at, rest) = rest.split_at_mut(n);
+        let (from, _) = rest.split_at_mut(n);
+        seen.fill(0);
+        Frontier {
+            seen,
+            at,
+            from,
+            tail: 0,
+        }
     }
-}
 
-impl Frontier<'_> {
     // How many entries there are.
     pub(crate) fn len(&self) -> usize
         ensures len { result ≡ self.now.tail }
