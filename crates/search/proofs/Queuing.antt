@@ -120,5 +120,6 @@ module _ (q v : Queue) (l i : ℕ) (e : q ≡ v) (s : Tidy q) (low : i < length 
   pub room_for : (q.tail < length q.seen) × (l < length q.seen)
   room_for = let r = room q s l i here new back in (r, omega (arith, r, back))
 
-  pub offered_for : Offered l i v (queue (set q.seen i 1) (set q.at q.tail i) (set q.from q.tail l) (q.tail + 1))
-  offered_for = subst (λ v. Offered l i v (queue (set q.seen i 1) (set q.at q.tail i) (set q.from q.tail l) (q.tail + 1))) e (offered_new q s l i here new back)
+  -- w is the word that the link was written as
+  pub offered_for : (w : ℕ) → w ≡ l → Offered l i v (queue (set q.seen i 1) (set q.at q.tail i) (set q.from q.tail w) (q.tail + 1))
+  offered_for w is = rw is (subst (λ v. Offered l i v (queue (set q.seen i 1) (set q.at q.tail i) (set q.from q.tail l) (q.tail + 1))) e (offered_new q s l i here new back))

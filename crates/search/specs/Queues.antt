@@ -1,5 +1,5 @@
 -- A queue of slots in three lists: whether a slot was seen, the slot of each entry, and the entry that it was reached from.
-use Rattle.std.specs.Prelude.{◌≡◌, ℕ, zero, suc, ◌+◌, ◌^◌, ◌<◌, ◌≤◌, List, length, sum, slice_index}
+use Rattle.std.specs.Prelude.{◌≡◌, ℕ, zero, suc, ◌+◌, ◌^◌, ◌<◌, ◌≤◌, List, length, sum, Some, None, Option, slice_index}
 
 -- the first entries of `at` and `from`, as many as `tail` says, are in use
 pub record Queue : Type 0 where
@@ -20,6 +20,11 @@ slot q p = slice_index q.at p
 -- 0 for a root, else one more than the entry whose key may go to the slot
 abbrev pub link : Queue → ℕ → ℕ
 link q p = slice_index q.from p
+
+-- the link to an entry, or to none
+abbrev pub link_to : Option ℕ → ℕ
+link_to None = 0
+link_to (Some p) = p + 1
 
 -- the source that a link stands for: 0 for the roots, else one more than the slot of the entry
 abbrev pub source : Queue → ℕ → ℕ

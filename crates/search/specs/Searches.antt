@@ -110,6 +110,10 @@ marked_below seen n = filter (marked seen) (range_with_len 0 n)
 abbrev pub Nowhere : ℕ → Type 0
 Nowhere i = ⊥
 
+-- under each entry from a to b, the candidates of the key in its slot
+abbrev pub Under : Scene → Queue → ℕ → ℕ → ℕ → ℕ → Type 0
+Under h q a b = Level h Nowhere q (a + 1) (b + 1)
+
 -- all entries are roots, and none of them is vacant
 pub record Roots (xs : List Content) (q : Queue) : Type 0 where
   pub sound : Tidy q

@@ -1,5 +1,6 @@
 // The slots of a range, appended.
 ghost use Rattle.std.specs.Prelude.{◌≤◌, length};
+ghost use Rattle.search.specs.Queues.{link_to};
 ghost use Rattle.search.specs.Searches.{Toward, Between};
 ghost use Rattle.table.specs.Views.{Stepped};
 
@@ -10,15 +11,21 @@ use banks::Bank;
 impl Frontier<'_> {
     // Appends the slots from first to end that were not seen, up to the first vacant one; whether there
     // was one.
-    pub(crate) fn offer<B: Bank>(&mut self, bank: &B, first: usize, end: usize, link: usize) -> bool
+    pub(crate) fn offer<B: Bank>(
+        &mut self,
+        bank: &B,
+        first: usize,
+        end: usize,
+        from: Option<usize>,
+    ) -> bool
         requires low { (first ≤ end) × (end ≤ length self.old.seen) }
-        requires back { link ≤ self.old.tail }
-        ensures { Stepped (B.Bank.slots bank.now) (Toward link (Between first end)) self.old self.new result }
+        requires back { link_to from ≤ self.old.tail }
+        ensures { Stepped (B.Bank.slots bank.now) (Toward (link_to from) (Between first end)) self.old self.new result }
     {
         // a field is read, from which the proof has that the queue is tidy
         let _ = &self.tail;
         for i in first..end {
-            if self.push(i, link) && vacant_at(bank, i) {
+            if self.push(i, from) && vacant_at(bank, i) {
                 return true;
             }
         }

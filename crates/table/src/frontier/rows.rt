@@ -1,8 +1,16 @@
 // An empty frontier, its entries, and one slot more.
-ghost use Rattle.std.specs.Prelude.{◌≡◌, ◌+◌, ◌*◌, ◌^◌, ◌<◌, ◌≤◌, length, Decides, MatchOption};
-ghost use Rattle.search.specs.Queues.{Tidy, Fresh, Offered, slot, link};
+ghost use Rattle.std.specs.Prelude.{◌≡◌, ◌*◌, ◌^◌, ◌<◌, ◌≤◌, length, Decides};
+ghost use Rattle.search.specs.Queues.{Tidy, Fresh, Offered, slot, link, link_to};
 
 use crate::frontier::Frontier;
+
+// The link to an entry, in a word; 0 for none.
+fn link_to(from: Option<usize>) -> u32
+    requires { link_to from < 2 ^ 32 }
+    ensures { result ≡ link_to from }
+{
+    from.map_or(0, |entry| entry as u32 + 1)
+}
 
 impl<'a> Frontier<'a> {
     // An empty frontier of n slots in the first words.
@@ -33,40 +41,41 @@ impl<'a> Frontier<'a> {
         self.tail
     }
 
-    // The slot of entry p.
-    pub(crate) fn slot(&self, p: usize) -> usize
-        requires { p < self.now.tail }
-        ensures slot { result ≡ slot self.now p }
+    // The slot of an entry.
+    pub(crate) fn slot(&self, entry: usize) -> usize
+        requires { entry < self.now.tail }
+        ensures slot { result ≡ slot self.now entry }
         ensures tidy { Tidy self.now }
     {
         let row = &*self.at;
-        row[p] as usize
+        row[entry] as usize
     }
 
-    // The entry that entry p was reached from; a root has none.
-    pub(crate) fn before(&self, p: usize) -> Option<usize>
-        requires { p < self.now.tail }
-        ensures { MatchOption result (link self.now p ≡ 0) (λ b. link self.now p ≡ b + 1) }
+    // The entry that an entry was reached from; a root has none.
+    pub(crate) fn before(&self, entry: usize) -> Option<usize>
+        requires { entry < self.now.tail }
+        ensures { link self.now entry ≡ link_to result }
     {
         let row = &*self.from;
-        (row[p] as usize).checked_sub(1)
+        (row[entry] as usize).checked_sub(1)
     }
 
-    // Appends slot i under the link, if it was not seen; whether it was appended. The link changes from
-    // call to call, so that it is not past the tail is asked of it, and is no invariant.
-    pub(crate) fn push(&mut self, i: usize, link: usize) -> bool
+    // Appends slot i as reached from an entry, or as a root, if it was not seen; whether it was appended.
+    // The entry changes from call to call, so that it is there is asked, and is no invariant.
+    pub(crate) fn push(&mut self, i: usize, from: Option<usize>) -> bool
         requires low { i < length self.old.seen }
-        requires back { link ≤ self.old.tail }
-        ensures offered { Offered link i self.old self.new }
+        requires back { link_to from ≤ self.old.tail }
+        ensures offered { Offered (link_to from) i self.old self.new }
         ensures new { Decides result (self.old.tail < self.new.tail) }
     {
         let tail = self.tail;
+        let link = link_to(from);
         if self.seen[i] != 0 {
             return false;
         }
         self.seen[i] = 1;
         self.at[tail] = i as u32;
-        self.from[tail] = link as u32;
+        self.from[tail] = link;
         self.tail = tail + 1;
         true
     }

@@ -13,16 +13,17 @@ use banks::Bank;
 use places::Rule;
 
 impl<B: Bank, R: Rule<B::Key>> PathSearch<'_, '_, B, R> {
-    // Expands every entry from the link on, also past vacant slots. The queue grows on the way, so this is
-    // a `while`.
-    fn drain(&mut self, mut link: usize)
-        requires begun { Flooding (scene self.old.table.now) (Before self.old.frontier link) self.old.frontier link }
-        requires entry { (1 ≤ link) × (link ≤ self.old.frontier.tail + 1) }
-        ensures { Flooded (Before self.old.frontier link) self.old self.new }
+    // Expands every entry from the first on, also past vacant slots. The queue grows on the way, so this
+    // is a `while`.
+    fn drain(&mut self, first: usize)
+        requires begun { Flooding (scene self.old.table.now) (Before self.old.frontier (first + 1)) self.old.frontier (first + 1) }
+        requires entry { first ≤ self.old.frontier.tail }
+        ensures { Flooded (Before self.old.frontier (first + 1)) self.old self.new }
     {
-        while link <= self.frontier.len() {
-            if !self.expand(link) {
-                link += 1;
+        let mut entry = first;
+        while entry < self.frontier.len() {
+            if !self.expand(entry) {
+                entry += 1;
             }
         }
     }
@@ -34,9 +35,9 @@ impl<B: Bank, R: Rule<B::Key>> PathSearch<'_, '_, B, R> {
         requires filled { (i : ℕ) → Stash (layout self.old.table.now) i → Occupied (contents self.old.table.now) i }
         ensures { Flooded (Seen self.old.frontier) self.old self.new }
     {
-        let link = self.frontier.len() + 1;
+        let first = self.frontier.len();
         self.offer_stash();
-        self.drain(link);
+        self.drain(first);
     }
 
     // After a search for a key without a way: writes the blocking set of the key to the front of the

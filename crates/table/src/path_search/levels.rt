@@ -1,7 +1,7 @@
 // A search from its roots on, level by level.
-ghost use Rattle.std.specs.Prelude.{◌+◌, ◌≤◌};
+ghost use Rattle.std.specs.Prelude.{◌+◌, ◌<◌, ◌≤◌};
 ghost use Rattle.search.specs.Queues.{Seen};
-ghost use Rattle.search.specs.Searches.{Level, Nowhere, Roots};
+ghost use Rattle.search.specs.Searches.{Under, Roots};
 ghost use Rattle.table.specs.Shapes.{contents, scene};
 ghost use Rattle.table.specs.Views.{Went, Sought};
 
@@ -10,25 +10,25 @@ use banks::{Bank, content_at};
 use places::Rule;
 
 impl<B: Bank, R: Rule<B::Key>> PathSearch<'_, '_, B, R> {
-    // Appends the candidates of the key in the slot of the entry that the link stands for.
-    pub(crate) fn expand(&mut self, link: usize) -> bool
-        requires { (1 ≤ link) × (link ≤ self.old.frontier.tail) }
-        ensures { Went (Level (scene self.old.table.now) Nowhere self.old.frontier link (link + 1)) self.old self.new result }
+    // Appends the candidates of the key in the slot of an entry.
+    pub(crate) fn expand(&mut self, entry: usize) -> bool
+        requires { entry < self.old.frontier.tail }
+        ensures { Went (Under (scene self.old.table.now) self.old.frontier entry (entry + 1)) self.old self.new result }
     {
-        let Some(entry) = content_at(&self.table.bank, self.frontier.slot(link - 1)) else {
+        let Some(held) = content_at(&self.table.bank, self.frontier.slot(entry)) else {
             return false;
         };
-        self.spread(&entry.key, link)
+        self.spread(&held.key, Some(entry))
     }
 
-    // The same for the links from the first on.
+    // The same for the entries from the first on.
     fn level(&mut self, first: usize) -> bool
-        requires { (1 ≤ first) × (first ≤ self.old.frontier.tail + 1) }
-        ensures { Went (Level (scene self.old.table.now) Nowhere self.old.frontier first (self.old.frontier.tail + 1)) self.old self.new result }
+        requires { first ≤ self.old.frontier.tail }
+        ensures { Went (Under (scene self.old.table.now) self.old.frontier first self.old.frontier.tail) self.old self.new result }
     {
-        let end = self.frontier.len() + 1;
-        for link in first..end {
-            if self.expand(link) {
+        let end = self.frontier.len();
+        for entry in first..end {
+            if self.expand(entry) {
                 return true;
             }
         }
@@ -41,9 +41,9 @@ impl<B: Bank, R: Rule<B::Key>> PathSearch<'_, '_, B, R> {
         requires { Roots (contents self.old.table.now) self.old.frontier }
         ensures { Sought (Seen self.old.frontier) self.old self.new result }
     {
-        let mut first = 1;
-        'levels: while first <= self.frontier.len() {
-            let next = self.frontier.len() + 1;
+        let mut first = 0;
+        'levels: while first < self.frontier.len() {
+            let next = self.frontier.len();
             if self.level(first) {
                 return true;
             }

@@ -16,7 +16,7 @@ impl<B: Bank, R: Rule<B::Key>> PathSearch<'_, '_, B, R> {
         requires { Fresh self.old.frontier }
         ensures { Sought (Candidate (layout self.old.table.now) (B.Key.Kind.bytes key.now)) self.old self.new result }
     {
-        self.spread(key, 0) || self.levels()
+        self.spread(key, None) || self.levels()
     }
 
     // Whether a key of the stash has a cuckoo path; the way back from the last entry is then a shortest

@@ -1,5 +1,6 @@
 // The candidates of a key, appended up to the first vacant one; and the held slots of the stash.
 ghost use Rattle.std.specs.Prelude.{◌≡◌, ◌≤◌};
+ghost use Rattle.search.specs.Queues.{link_to};
 ghost use Rattle.search.specs.Searches.{Spread, Toward, Waiting};
 ghost use Rattle.seating.specs.Layouts.{Candidate};
 ghost use Rattle.table.specs.Shapes.{layout, contents, scene};
@@ -12,10 +13,10 @@ use places::Rule;
 
 impl<B: Bank, R: Rule<B::Key>> PathSearch<'_, '_, B, R> {
     // Appends the candidates of the key that were not seen, up to the first vacant one; whether there was
-    // one.
-    pub(crate) fn spread(&mut self, key: &B::Key, link: usize) -> bool
-        requires { link ≤ self.old.frontier.tail }
-        ensures { Went (Toward link (Candidate (layout self.old.table.now) (B.Key.Kind.bytes key.now))) self.old self.new result }
+    // one. The entry that has the key is given, if one has.
+    pub(crate) fn spread(&mut self, key: &B::Key, from: Option<usize>) -> bool
+        requires { link_to from ≤ self.old.frontier.tail }
+        ensures { Went (Toward (link_to from) (Candidate (layout self.old.table.now) (B.Key.Kind.bytes key.now))) self.old self.new result }
     {
         // a look at the frontier, from which the proof has that it is tidy
         let _ = self.frontier.len();
@@ -25,7 +26,7 @@ impl<B: Bank, R: Rule<B::Key>> PathSearch<'_, '_, B, R> {
             let first = b * table.width;
             if self
                 .frontier
-                .offer(&table.bank, first, first + table.width, link)
+                .offer(&table.bank, first, first + table.width, from)
             {
                 return true;
             }
@@ -44,7 +45,7 @@ impl<B: Bank, R: Rule<B::Key>> PathSearch<'_, '_, B, R> {
         let stash = table.stash_slots();
         for i in stash.start..stash.end {
             if !vacant_at(&table.bank, i) {
-                self.frontier.push(i, 0);
+                self.frontier.push(i, None);
             }
         }
     }

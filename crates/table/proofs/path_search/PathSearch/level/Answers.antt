@@ -8,20 +8,22 @@ use Rattle.table.proofs.path_search.PathSearch.level.Goals as goal
 pub returns-then-expand : goal.returns-then-expand
 returns-then-expand g c =
     let h = scene c.args.self.now.table.now in
-    let i = c.loop-link.invariant in
+    let i = c.loop-entry.invariant in
     let w = rw i.0 at c.if-expand.ensures.1 in (
       c.if-expand.ensures.0 ∙ i.0,
-      struck_then _ _ _ _ i.1 (level_into h Nowhere _ _ i.1.grew _ _ c.loop-link.auto.link (omega (arith, c.loop-link-test.true, c.len-end.ensures.len)) _ (omega (arith, c.loop-link-test.true, c.len-end.ensures.len))) _ w,
+      struck_then _ _ _ _ i.1
+          (level_into h Nowhere _ _ i.1.grew _ _ (omega (arith, c.loop-entry.auto.entry)) (omega (arith, c.loop-entry-test.true, c.len-end.ensures.len)) _ (omega (arith, c.loop-entry-test.true, c.len-end.ensures.len)))
+          _ w,
     )
 
-pub loop-link-preserved : goal.loop-link-preserved
-loop-link-preserved g c =
+pub loop-entry-preserved : goal.loop-entry-preserved
+loop-entry-preserved g c =
     let h = scene c.args.self.now.table.now in
-    let i = c.loop-link.invariant in
+    let i = c.loop-entry.invariant in
     let w = rw i.0 at c.if-expand.ensures.1 in (
       c.if-expand.ensures.0 ∙ i.0,
       spread_then _ _ _ _ i.1
-          (level_into h Nowhere _ _ i.1.grew _ _ c.loop-link.auto.link (omega (arith, c.loop-link-test.true, c.len-end.ensures.len)) _ (omega arith))
-          (level_onto h Nowhere _ _ i.1.grew _ _ c.loop-link.auto.link (omega (arith, c.loop-link-test.true, c.len-end.ensures.len)))
+          (level_into h Nowhere _ _ i.1.grew _ _ (omega (arith, c.loop-entry.auto.entry)) (omega (arith, c.loop-entry-test.true, c.len-end.ensures.len)) _ (omega arith))
+          (level_onto h Nowhere _ _ i.1.grew _ _ (omega (arith, c.loop-entry.auto.entry)) (omega (arith, c.loop-entry-test.true, c.len-end.ensures.len)))
           w,
     )

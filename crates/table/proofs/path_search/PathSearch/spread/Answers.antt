@@ -1,4 +1,5 @@
 use Rattle.std.proofs.Common.{◌≡◌, ℕ, ◌*◌, List, length, get_or, ap, ◌∙◌, arith}
+use Rattle.search.specs.Queues.{link_to}
 use Rattle.search.proofs.Spreading.{spread_as, struck_as, spread_then, struck_then, under_into, under_onto}
 use Rattle.table.specs.Shapes.{layout}
 use Rattle.table.proofs.Parts.{table_sized, to_candidates, of_candidates}
@@ -11,7 +12,7 @@ returns-then-offer g c =
     let e = c.as_slice-b-items.ensures.value ∙ c.choices-choices.ensures in
     let n = ap (λ (bs : List ℕ). length bs) e in (
       c.loop-b.invariant.0,
-      struck_as _ _ _ _ (to_candidates (layout t) (table_sized t g.met.R.Rule.placed) k c.args.link)
+      struck_as _ _ _ _ (to_candidates (layout t) (table_sized t g.met.R.Rule.placed) k (link_to c.args.from))
           (struck_then _ _ _ _ c.loop-b.invariant.1
           (under_into _ _ _ _ _ (ap (λ (bs : List ℕ). get_or bs c.loop-b.b-index 0 * t.width) e) _ (omega (arith, n, c.loop-b-test.true)))
           _ c.if-offer.ensures),
@@ -32,5 +33,5 @@ returns g c =
     let e = c.as_slice-b-items.ensures.value ∙ c.choices-choices.ensures in
     let n : c.loop-b.b-index ≡ length (g.R.Rule.places t.rule k) = omega (arith, ap (λ (bs : List ℕ). length bs) e) in (
       c.loop-b.invariant.0,
-      spread_as _ _ _ (to_candidates (layout t) sized k c.args.link) (of_candidates (layout t) sized k c.args.link) (rw n at c.loop-b.invariant.1),
+      spread_as _ _ _ (to_candidates (layout t) sized k (link_to c.args.from)) (of_candidates (layout t) sized k (link_to c.args.from)) (rw n at c.loop-b.invariant.1),
     )
