@@ -10,7 +10,7 @@ use Rattle.seating.specs.Lookups.{look_order}
 use Rattle.seating.specs.Slots.{at, Sits, stashed}
 use Rattle.seating.specs.Steps.{Lent, Roomy, blank, Found, Missing, Rested, Refilled}
 use Rattle.seating.specs.Steps.PutAnswer.{seated, renewed, too_short, full}
-use Rattle.seating.specs.Steps.DropAnswer.{dropped, too_short as lentShort, not_held}
+use Rattle.seating.specs.Steps.DropAnswer.{dropped, too_short as lent_short, not_held}
 use Rattle.seating.proofs.Fronting.{order_allowed}
 use Rattle.seating.proofs.Looking.{order_has}
 use Rattle.table.specs.Looks.{Looks}
@@ -52,8 +52,8 @@ module _ (L : Layout) (xs : List Content) (k : Key) (v : Value) (work was : List
 pub short_put : (L : Layout) (xs : List Content) (k : Key) (v : Value) (was : Lent) → (Roomy L was → ⊥) → PutPromise L xs k v was too_short xs was
 short_put L xs k v was n = put_promise L xs k v was too_short xs was (n, refl, refl)
 
-pub short_drop : (L : Layout) (xs : List Content) (k : Key) (was : List ℕ) → length was < 3 * slots L → DropPromise L xs k was lentShort xs was
-short_drop L xs k was n = drop_promise L xs k was lentShort xs was (n, refl, refl)
+pub short_drop : (L : Layout) (xs : List Content) (k : Key) (was : List ℕ) → length was < 3 * slots L → DropPromise L xs k was lent_short xs was
+short_drop L xs k was n = drop_promise L xs k was lent_short xs was (n, refl, refl)
 
 pub absent_drop : (L : Layout) (xs : List Content) (k : Key) (was : List ℕ) → 3 * slots L ≤ length was → Missing L xs k → DropPromise L xs k was not_held xs (blank was)
 absent_drop L xs k was room miss = drop_promise L xs k was not_held xs (blank was) (room, miss, refl, refl)

@@ -1,10 +1,10 @@
 -- What a put and a drop promise of the slots of a bank, by their answers.
-use Rattle.std.specs.Prelude.{◌≡◌, ℕ, ◌⊎◌, List, ◌∷◌, ◌++◌, length, drop as past, Ok, Err, Result, slice_set}
+use Rattle.std.specs.Prelude.{◌≡◌, ℕ, ◌⊎◌, List, ◌∷◌, ◌++◌, length, drop, Ok, Err, Result, slice_set}
 use Rattle.keys.specs.declared.refusal.Refusal.{Refusal}
 use Rattle.keys.specs.declared.refusal.Refusal.TheVariants.{LentShort, Full, NotHeld}
 use Rattle.seating.specs.Blocking.{blocking}
 use Rattle.seating.specs.Calls.{Call, Nothing, Holds}
-use Rattle.seating.specs.Calls.Call.{drop}
+use Rattle.seating.specs.Calls.Call.{drop as drop_call}
 use Rattle.seating.specs.Fronts.{front, rest}
 use Rattle.seating.specs.Layouts.{Key, Value, Content, Layout}
 use Rattle.seating.specs.Layouts.Content.{holding}
@@ -13,7 +13,7 @@ use Rattle.seating.specs.Runs.{Ran, fresh, Law, Outcome}
 use Rattle.seating.specs.Slots.{moved, stashed, value_of}
 use Rattle.seating.specs.Steps.{Lent, Found, Missing, Pathed, Stowed, Stuck, PutAnswer, PutDoes, DropAnswer, DropDoes}
 use Rattle.seating.specs.Steps.PutAnswer.{seated, renewed, too_short, full}
-use Rattle.seating.specs.Steps.DropAnswer.{dropped, too_short as lentShort, not_held}
+use Rattle.seating.specs.Steps.DropAnswer.{dropped, too_short as lent_short, not_held}
 use Rattle.seating.specs.Tables.{Sound}
 use Rattle.table.specs.declared.Moves.{Moves}
 use Rattle.table.specs.declared.Seated.{Seated}
@@ -53,12 +53,12 @@ pub record DropPromise (L : Layout) (xs : List Content) (k : Key) (was : List �
   pub sound : Sound L (front L xs) → Sound L (front L ys)
   pub moves : Sound L (front L xs) → DropShows a (front L xs) (front L ys)
   pub map : Sound L (front L xs) → DropMaps (value_of (front L xs)) k a (value_of (front L ys))
-  pub law : (h : List Call) → Ran L (fresh L) h (front L xs) → Law L (Holds L Nothing (drop k (length was) ∷ h)) (front L ys)
+  pub law : (h : List Call) → Ran L (fresh L) h (front L xs) → Law L (Holds L Nothing (drop_call k (length was) ∷ h)) (front L ys)
 
 -- the answer of a drop, told of P
 abbrev pub drop_done : (DropAnswer → Type 0) → Result Moves Refusal → Type 0
 drop_done P (Ok m) = P (dropped m.moved m.stashed)
-drop_done P (Err LentShort) = P lentShort
+drop_done P (Err LentShort) = P lent_short
 drop_done P (Err NotHeld) = P not_held
 drop_done P (Err _) = ⊥
 
@@ -68,7 +68,7 @@ SeatDoes L xs k v was (Ok (In m)) ys is =
     (Pathed L xs k v m.moved ys ⊎ Stowed L xs k v m.moved ys) × (m.stashed ≡ stashed L ys) × (is ≡ was)
 SeatDoes L xs k v was (Ok Renewed) ys is = ⊥
 SeatDoes L xs k v was (Err (Full c)) ys is =
-    Stuck L xs k × (ys ≡ xs) × (c ≡ length (blocking L xs k)) × (is ≡ blocking L xs k ++ past c was)
+    Stuck L xs k × (ys ≡ xs) × (c ≡ length (blocking L xs k)) × (is ≡ blocking L xs k ++ drop c was)
 SeatDoes L xs k v was (Err _) ys is = ⊥
 
 -- a put with enough lent memory: a held key has a new value, and another is seated or refused

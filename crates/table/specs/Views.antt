@@ -1,5 +1,5 @@
 -- What the parts of a search do to it.
-use Rattle.std.specs.Prelude.{◌≡◌, ℕ, ◌+◌, ◌-◌, Bool, List, ◌++◌, length, drop as past, MatchBool}
+use Rattle.std.specs.Prelude.{◌≡◌, ℕ, ◌+◌, ◌-◌, Bool, List, ◌++◌, length, drop, MatchBool}
 use Rattle.banks.specs.declared.bank.Bank as Banks
 use Rattle.keys.specs.declared.kind.Kind as Kinds
 use Rattle.places.specs.declared.rule.Rule as Rules
@@ -11,7 +11,7 @@ use Rattle.table.specs.declared.path_search.PathSearch.{PathSearch}
 
 -- the numbers ns stand at the front of the list, c of them
 abbrev pub Listed : List ℕ → List ℕ → ℕ → List ℕ → Type 0
-Listed ns was c is = (c ≡ length ns) × (is ≡ ns ++ past c was)
+Listed ns was c is = (c ≡ length ns) × (is ≡ ns ++ drop c was)
 
 -- a part of a search went through T, or came to a vacant slot, which is the last entry
 abbrev pub Stepped : List Content → (ℕ → ℕ → Type 0) → Queue → Queue → Bool → Type 0
