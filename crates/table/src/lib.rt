@@ -30,6 +30,7 @@ pub struct Table<B: Bank, R: Rule<B::Key>> {
 }
 
 // Why no table was made, with the bank and the rule given back.
+#[derive(Debug, PartialEq, Eq)]
 pub struct Unmade<B, R> {
     pub refusal: Refusal,
     pub bank: B,
