@@ -30,6 +30,7 @@ fn look_range<B: Bank>(bank: &B, key: &B::Key, first: usize, count: usize) -> Lo
     requires { first + count < 2 ^ 32 }
     ensures { Looks (B.Bank.slots bank.now) (B.Key.Kind.bytes key.now) (range_with_len first count) result }
 {
+    // by index, which tells how many slots were looked at before
     for j in 0..count {
         let slot = first + j;
         if let Some(value) = value_at(bank, slot, key) {

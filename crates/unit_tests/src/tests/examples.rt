@@ -26,10 +26,7 @@ const WORDS: [(u32, &[u8], u32); 13] = [
 ];
 
 fn named(text: &[u8]) -> Result<Name, Fail> {
-    match Name::new(text) {
-        Ok(name) => Ok(name),
-        Err(_) => Err(Fail::new("no name")),
-    }
+    Ok(Name::new(text)?)
 }
 
 #[test]
@@ -82,9 +79,7 @@ const CHOSEN: [(RuleName, usize, &[u8], &[usize]); 6] = [
 #[test]
 fn choices_of_each_rule(rt: HostRuntime) -> Result<(), Fail> {
     for (name, n, text, buckets) in CHOSEN {
-        let Ok(rule) = Builtin::new(name, n, 0) else {
-            return Err(Fail::new("no rule"));
-        };
+        let rule = Builtin::new(name, n, 0)?;
         assert!(rt; rule.choices(&named(text)?).as_slice() == buckets);
     }
     Ok(())
@@ -148,9 +143,7 @@ fn bytes_of_a_flow(rt: HostRuntime) -> Result<(), Fail> {
 
 #[test]
 fn rule_of_a_customer(rt: HostRuntime) -> Result<(), Fail> {
-    let Ok(rule) = ByBytes::new(100) else {
-        return Err(Fail::new("no rule"));
-    };
+    let rule = ByBytes::new(100)?;
     let name = named(&[7, 213, 9])?;
     assert_eq!(rt; rule.choices(&name), Choices::Two([7, 13]));
     let short = named(&[7])?;

@@ -87,9 +87,7 @@ const FLOWS: [&[u8]; 3] = [
 fn flows_written_as_read(rt: HostRuntime) -> Result<(), Fail> {
     let heap = rt.alloc();
     for text in FLOWS.iter() {
-        let Some(flow) = read_flow(text) else {
-            return Err(Fail::new("not read"));
-        };
+        let flow = read_flow(text).ok_or("not read")?;
         let mut out = Vec::new(heap);
         flow.write(&mut out)?;
         assert!(rt; out.as_slice() == *text);
