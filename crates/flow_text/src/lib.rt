@@ -1,4 +1,4 @@
-// Flows read from text, and the definition of their text.
+// Flows read from text.
 #![tactic(auto)]
 
 ghost use Rattle.std.specs.Prelude.{◌≡◌, []};
@@ -30,7 +30,7 @@ fn read_endpoint<'a>(s: &'a [u8], mark: u8) -> Option<(SocketAddrV4, &'a [u8])>
     Some((SocketAddrV4::new(address, u16::try_from(port).ok()?), s))
 }
 
-// The number of an address.
+// The number of an address, by its octets, of which the clause speaks; `u32::from` would need a lemma.
 fn number_of(address: &Ipv4Addr) -> u32
     ensures { four result [] ≡ ipv4_octets address.now }
 {

@@ -1,5 +1,5 @@
 -- Where bytes have their first line feed, and what a reader has left behind it.
-use Rattle.std.proofs.Common.{◌≡◌, ◌≢◌, ◌==◌, ℕ, ◌+◌, ◌<◌, not, None, Some, List, [], ◌∷◌, ◌++◌, All, length, take, get_or, position, ap, ◌∙◌, arith, ne_eqb, eqb-true}
+use Rattle.std.proofs.Common.{◌≡◌, ◌≢◌, ◌==◌, ℕ, ◌+◌, ◌<◌, not, None, Some, List, [], ◌∷◌, ◌++◌, All, length, take, drop, take-append-drop, get_or, position, ap, sym, subst, append_assoc, ◌∙◌, arith, ne_eqb, eqb-true}
 use Rattle.std.specs.List.{position_or_len}
 use Rattle.std.proofs.lemmas.Bool.{eqb-false}
 use Rattle.std.proofs.lemmas.Bool.Decides.{nat_tests}
@@ -46,3 +46,9 @@ until_before bs rest h =
 pub until_clear : (bs : List ℕ) → Clear bs → until_feed bs ≡ bs
 until_clear bs h =
     take_all _ bs (omega (arith, rw append-nil at (first_behind bs [] h)))
+
+pub until_at : (s : List ℕ) (i : ℕ) → position (λ b. b == 10) s ≡ Some i → until_feed s ≡ take i s
+until_at s i e =
+    let at = clear_before s i e in
+    let whole : take i s ++ 10 ∷ drop (i + 1) s ≡ s = sym (append_assoc (take i s) (10 ∷ []) (drop (i + 1) s)) ∙ ap (λ (t : List ℕ). t ++ drop (i + 1) s) (sym at.2) ∙ take-append-drop (i + 1) s in
+    subst (λ (t : List ℕ). until_feed t ≡ take i s) whole (until_before (take i s) (drop (i + 1) s) at.1)

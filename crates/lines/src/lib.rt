@@ -1,8 +1,9 @@
 // Lines of input of at most 128 bytes, read piece by piece with bounded memory.
 #![tactic(auto)]
 
-ghost use Rattle.std.specs.Prelude.{◌≡◌, ◌==◌, position, IfSome, IfOk};
-ghost use Rattle.lines.specs.Said.{SaysLine, ReadsLine};
+ghost use Rattle.std.specs.Prelude.{◌≡◌, ◌==◌, ℕ, List, ◌++◌, position, IfSome, IfOk};
+ghost use Rattle.lines.specs.Lines.{line_text, until_feed};
+ghost use Rattle.lines.specs.Said.{said, SaysLine, ReadsLine};
 ghost use Rattle.lines.specs.Pieces.{Takes};
 
 use std::io;
@@ -25,11 +26,24 @@ enum Piece {
     More,
 }
 
-// Where the first line feed stands. `numerals` finds any mark, but no line needs numbers.
+// Where the first line feed stands; one call of `position` is no reason to stand on `numerals`.
 fn find_feed(piece: &[u8]) -> Option<usize>
     ensures { result ≡ position (λ b. b == 10) piece.now }
 {
     piece.iter().position(|b| *b == b'\n')
+}
+
+// Takes the bytes of a piece up to its first line feed into the line; where that stands.
+fn take_until_feed(line: &mut Line, piece: &[u8]) -> Option<usize>
+    ensures feed { result ≡ position (λ b. b == 10) piece.now }
+    ensures after { (bs : List ℕ) → said line.old ≡ line_text bs → said line.new ≡ line_text (bs ++ until_feed piece.now) }
+{
+    let feed = find_feed(piece);
+    match feed {
+        Some(at) => line.extend(&piece[..at]),
+        None => line.extend(piece),
+    }
+    feed
 }
 
 // Takes the next piece of the input into the line, up to its first line feed.
@@ -40,13 +54,11 @@ fn take_piece<R: BufRead>(from: &mut R, line: &mut Line) -> io::Result<Piece>
     if piece.is_empty() {
         return Ok(Piece::End);
     }
-    let Some(at) = find_feed(piece) else {
-        let all = piece.len();
-        line.extend(piece);
+    let all = piece.len();
+    let Some(at) = take_until_feed(line, piece) else {
         from.consume(all);
         return Ok(Piece::More);
     };
-    line.extend(&piece[..at]);
     from.consume(at + 1);
     Ok(Piece::Last)
 }
@@ -57,6 +69,7 @@ pub fn next_line<R: BufRead>(from: &mut R) -> io::Result<Option<Line>>
     ensures reads { IfOk result (λ o. ReadsLine (R.remaining from.old) o (R.remaining from.new)) }
 {
     let mut line = Line::new();
+    // bounded, as every loop is; the index tells whether anything was taken
     for taken in 0..u64::MAX {
         match take_piece(from, &mut line)? {
             Piece::More => {}

@@ -11,7 +11,7 @@ use Rattle.places.specs.declared.digits.DigitCount.TheVariants.{Two as two, Thre
 use Rattle.places.specs.declared.digits.Digits.{Digits}
 use Rattle.places.specs.declared.two.Two.{Two}
 use Rattle.places.specs.declared.xor.Xor.{Xor}
-use Rattle.places.specs.Powers.{xor_size, xor_some, xor_inside}
+use Rattle.places.specs.Powers.{power_some, tested_size, xor_inside}
 
 sized : (n d : ℕ) → 1 ≤ n → n ≤ 512 → 1 ≤ d → d ≤ 3 → RuleSized n d
 sized n d a b c e = record { some = a; few = b; one = c; three = e }
@@ -47,19 +47,20 @@ digits_sized r = sized_digits r.count r.buckets r.some r.few
 pub digits_placed : (r : Digits) (k : Key) → Placed (digits_count r) (digits_degree r) (digits_places r k)
 digits_placed r k = placed_digits r.count r.buckets (fnv r.seed k) r.some
 
-xor_fits : (r : Xor) → XorSize r.buckets
-xor_fits r = xor_size r.buckets r.power r.few
+xor_power : (r : Xor) → XorSize r.buckets
+xor_power r = tested_size r.buckets r.power r.few
 
 pub xor_sized : (r : Xor) → RuleSized (xor_count r) 2
-xor_sized r = sized r.buckets 2 (xor_some r.buckets (xor_fits r)) r.few (omega arith) (omega arith)
+xor_sized r = sized r.buckets 2 (power_some (xor_power r).0 r.buckets (xor_power r).1) r.few (omega arith) (omega arith)
 
 pub xor_placed : (r : Xor) (k : Key) → Placed (xor_count r) 2 (xor_places r k)
 xor_placed r k =
     let h : ℕ = fnv r.seed k in
+    let p : XorSize r.buckets = xor_power r in
     record {
       count = refl;
       inside = (
-        mod-lt h (xor_some r.buckets (xor_fits r)),
-        (xor_inside r.buckets h (fnv 0 ((h / 2 ^ 24) ∷ [])) (xor_fits r), tt),
+        mod-lt h (power_some p.0 r.buckets p.1),
+        (xor_inside p.0 r.buckets h (fnv 0 ((h / 2 ^ 24) ∷ [])) p.1, tt),
       );
     }

@@ -31,19 +31,19 @@ bit_of_power (suc k) =
     omega (arith, ones_step (2 ^ suc k), ap count_ones half, bit_of_power k)
 
 -- the library's test tells the sizes of `xor`
-pub xor_size : (n : ℕ) → is_power_of_two n ≡ true → n ≤ 512 → XorSize n
-xor_size n h l = let p = one_bit n n (omega arith) (eqb-true (count_ones n) 1 h) in (p.0, p.1, l)
+pub tested_size : (n : ℕ) → is_power_of_two n ≡ true → n ≤ 512 → XorSize n
+tested_size n h l = let p = one_bit n n (omega arith) (eqb-true (count_ones n) 1 h) in (p.0, p.1, l)
 
 pub power_of_xor : (n : ℕ) → XorSize n → is_power_of_two n ≡ true
 power_of_xor n s = eq-eqb (count_ones n) 1 (ap count_ones s.1 ∙ bit_of_power s.0)
 
-pub xor_some : (n : ℕ) → XorSize n → 1 ≤ n
-xor_some n s = omega (arith, s.1, pow_pos s.0)
+pub power_some : (k n : ℕ) → n ≡ 2 ^ k → 1 ≤ n
+power_some k n e = omega (arith, pow_pos k)
 
 -- what is exclusive-ored below a power of two stays below it
-pub xor_inside : (n a b : ℕ) → XorSize n → bit_xor (a % n) (b % n) < n
-xor_inside n a b s =
-    let p : 1 ≤ n = xor_some n s in
-    let l : a % n < 2 ^ s.0 = omega (arith, s.1, mod-lt a {m = n} p) in
-    let r : b % n < 2 ^ s.0 = omega (arith, s.1, mod-lt b {m = n} p) in
-    omega (arith, s.1, xor_lt s.0 (a % n) (b % n) l r)
+pub xor_inside : (k n a b : ℕ) → n ≡ 2 ^ k → bit_xor (a % n) (b % n) < n
+xor_inside k n a b e =
+    let p : 1 ≤ n = power_some k n e in
+    let l : a % n < 2 ^ k = omega (arith, mod-lt a {m = n} p) in
+    let r : b % n < 2 ^ k = omega (arith, mod-lt b {m = n} p) in
+    omega (arith, xor_lt k (a % n) (b % n) l r)

@@ -2,6 +2,7 @@
 ghost use Rattle.std.specs.Prelude.{◌≡◌, ◌≤◌, length, slice_index};
 ghost use Rattle.places.specs.Choices.{listed};
 
+// Arrays of one, two and three, so that no number of choices needs a test, and no memory of its own.
 #[derive(Clone, Copy, Debug, PartialEq, Eq)]
 pub enum Choices {
     One([usize; 1]),

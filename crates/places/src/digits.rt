@@ -11,7 +11,7 @@ pub enum DigitCount {
     Three,
 }
 
-#[derive(Clone, Copy, Debug)]
+#[derive(Clone, Copy, Debug, PartialEq, Eq)]
 pub struct Digits {
     count: DigitCount,
     buckets: usize,

@@ -12,7 +12,7 @@ pub enum RuleName {
 }
 
 // An enum of the rules, since a function may not make a `dyn` rule and hand it out.
-#[derive(Clone, Copy, Debug)]
+#[derive(Clone, Copy, Debug, PartialEq, Eq)]
 pub enum Builtin {
     Two(Two),
     Digits(Digits),

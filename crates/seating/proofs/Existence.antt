@@ -12,7 +12,7 @@ use Rattle.seating.specs.Runs.Ran.{begun, putting, dropping}
 use Rattle.seating.specs.Slots.{at, Sits}
 use Rattle.seating.specs.Steps.{Lent, Found, Missing, blank}
 use Rattle.seating.specs.Steps.PutAnswer.{seated, renewed, too_short, full}
-use Rattle.seating.specs.Steps.DropAnswer.{dropped, too_short as lentShort, not_held}
+use Rattle.seating.specs.Steps.DropAnswer.{dropped, too_short as lent_short, not_held}
 use Rattle.seating.proofs.Deciding.{Either, both?, le?, some?}
 use Rattle.seating.proofs.Histories.{ran_tracks, fresh_sound, fresh_tracks}
 use Rattle.seating.proofs.Searching.{candidate?, vacant?, stash?, shortest?, nearest?, sized}
@@ -83,7 +83,7 @@ put_exists_lem L xs k v was = elim (both? (le? (3 * slots L) (length was.work)) 
 
 pub drop_exists_lem : DropExists
 drop_exists_lem L xs k was = elim (le? (3 * slots L) (length was)) [
-  | inr n ↦ (lentShort, (xs, (was, (omega arith, refl, refl))))
+  | inr n ↦ (lent_short, (xs, (was, (omega arith, refl, refl))))
   | inl room ↦ elim (found? L xs k) [
     | inr miss ↦ (not_held, (xs, (blank was, (room, miss, refl, refl))))
     | inl (i, f) ↦ elim (nearest? L (set xs i vacant)) [

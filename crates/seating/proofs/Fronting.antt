@@ -15,7 +15,7 @@ use Rattle.seating.specs.Paths.{CuckooPath, Pathless, Shortest, Nearest, carry}
 use Rattle.seating.specs.Slots.{at, Sits, keys, stashed}
 use Rattle.seating.specs.Steps.{Found, Missing, Rested, Refilled}
 use Rattle.seating.specs.Steps.PutAnswer.{seated, renewed, too_short, full}
-use Rattle.seating.specs.Steps.DropAnswer.{dropped, too_short as lentShort, not_held}
+use Rattle.seating.specs.Steps.DropAnswer.{dropped, too_short as lent_short, not_held}
 use Rattle.seating.specs.Tables.{Settled}
 use Rattle.seating.proofs.Blockings.{Reach, reach_low, blocking_reached, blocking_least_lem}
 use Rattle.seating.proofs.Blockings.Reach.{start, onward}
@@ -181,7 +181,7 @@ drop_front_lem L xs k was (dropped m s) ys is (room, (i, f, way), n, b) =
     let e = set_front L xs i vacant l in
     let r = dropped_front L (set xs i vacant) m ys way in
     ((room, (i, found_front L xs k i f, rw e at r.0), kept_stashed L ys s n, b), r.1 ∙ drop-set-lt (slots L) xs i vacant l)
-drop_front_lem L xs k was lentShort ys is (n, e, b) = ((n, ap (front L) e, b), ap (rest L) e)
+drop_front_lem L xs k was lent_short ys is (n, e, b) = ((n, ap (front L) e, b), ap (rest L) e)
 drop_front_lem L xs k was not_held ys is (room, miss, e, b) = ((room, missing_front L xs k miss, ap (front L) e, b), ap (rest L) e)
 
 -- a lookup goes through the table's own slots

@@ -12,7 +12,7 @@ use Rattle.seating.specs.Runs.Ran.{begun, putting, dropping}
 use Rattle.seating.specs.Slots.{at, Sits, Held, Stored, slot_of}
 use Rattle.seating.specs.Steps.{Lent, Stuck, Missing, PutAnswer, PutDoes, DropAnswer, DropDoes}
 use Rattle.seating.specs.Steps.PutAnswer.{seated, renewed, too_short, full}
-use Rattle.seating.specs.Steps.DropAnswer.{dropped, too_short as lentShort, not_held}
+use Rattle.seating.specs.Steps.DropAnswer.{dropped, too_short as lent_short, not_held}
 use Rattle.seating.specs.Tables.{Lawful, Sound}
 use Rattle.seating.specs.Theorems.{Beside}
 use Rattle.seating.proofs.Changes.{Becomes, seated_becomes, renewed_becomes, dropped_loses}
@@ -145,7 +145,7 @@ drop_tracks : (L : Layout) (H : Holdings) (xs : List Content) (k : Key) (was : L
 drop_tracks L H xs k was (dropped m s) ys is (room, (i, f, way), n, b) g tr =
     let r = dropped_loses L xs ys k i m g.law f.1 way in
     λ j u. chain (chain (r j u) ((λ p. ((tr j u).0 p.0, p.1)), (λ p. ((tr j u).1 p.0, p.1)))) (after_drop L H room j u)
-drop_tracks L H xs k was lentShort ys is (n, e, b) g tr = rw e (λ j u. chain (tr j u) (after_short L H (drop k (length was)) (λ l. omega arith) j u))
+drop_tracks L H xs k was lent_short ys is (n, e, b) g tr = rw e (λ j u. chain (tr j u) (after_short L H (drop k (length was)) (λ l. omega arith) j u))
 drop_tracks L H xs k was not_held ys is (room, miss, e, b) g tr =
     rw e (λ j u. chain (tr j u) (after_absent L H (λ h. missing_not_held L xs k g.law miss (held xs H tr k h)) j u))
 

@@ -11,7 +11,7 @@ use Rattle.seating.specs.Paths.Path.{last}
 use Rattle.seating.specs.Slots.{at, Sits, Held}
 use Rattle.seating.specs.Steps.{Missing}
 use Rattle.seating.specs.Steps.PutAnswer.{seated, renewed, too_short, full}
-use Rattle.seating.specs.Steps.DropAnswer.{dropped, too_short as lentShort, not_held}
+use Rattle.seating.specs.Steps.DropAnswer.{dropped, too_short as lent_short, not_held}
 use Rattle.seating.specs.Tables.{Lawful, Settled, Sound}
 use Rattle.seating.specs.Theorems.{Gains, PutSound, DropSound}
 use Rattle.seating.proofs.Barriers.{barrier_stays, barrier_refilled, barrier_spared}
@@ -132,5 +132,5 @@ drop_sound_lem L xs k was (dropped m s) ys is (room, (i, f, inr p), n, b) g =
       rest = refilled_rest L xs i p.slot p.key p.value p.way g.law low z.stash z.here z.path d g.rest;
     } in
     rw p.after (rw (turn L xs i p.slot p.key p.value p.way g.law low z.stash z.here z.path d) at r)
-drop_sound_lem L xs k was lentShort ys is (n, e, b) g = rw e g
+drop_sound_lem L xs k was lent_short ys is (n, e, b) g = rw e g
 drop_sound_lem L xs k was not_held ys is (room, miss, e, b) g = rw e g

@@ -10,7 +10,7 @@ use Rattle.seating.specs.Maps.{Same, Known, PutMapLaw, DropMapLaw}
 use Rattle.seating.specs.Slots.{Sits, Stored, value_of}
 use Rattle.seating.specs.Steps.{Missing}
 use Rattle.seating.specs.Steps.PutAnswer.{seated, renewed, too_short, full}
-use Rattle.seating.specs.Steps.DropAnswer.{dropped, too_short as lentShort, not_held}
+use Rattle.seating.specs.Steps.DropAnswer.{dropped, too_short as lent_short, not_held}
 use Rattle.seating.specs.Tables.{Lawful}
 use Rattle.seating.proofs.Changes.{Becomes, Loses, seated_becomes, renewed_becomes, dropped_loses}
 use Rattle.seating.proofs.Keeping.{missing_not_held, put_sound_lem, drop_sound_lem}
@@ -68,5 +68,5 @@ pub drop_map_law_lem : DropMapLaw
 drop_map_law_lem L xs k was (dropped m s) ys is (room, (i, f, way), n, b) g =
     let law : Lawful L ys = (drop_sound_lem L xs k was (dropped m s) ys is (room, (i, f, way), n, b) g).law in
     (known L xs k i g.law f.1, loses_maps L xs ys k law (dropped_loses L xs ys k i m g.law f.1 way))
-drop_map_law_lem L xs k was lentShort ys is (n, e, b) g = same_slots xs ys e
+drop_map_law_lem L xs k was lent_short ys is (n, e, b) g = same_slots xs ys e
 drop_map_law_lem L xs k was not_held ys is (room, miss, e, b) g = (none_yet L xs k g.law miss, same_slots xs ys e)

@@ -7,7 +7,7 @@ use Rattle.seating.specs.Lookups.{lookup}
 use Rattle.seating.specs.Slots.{value_of}
 use Rattle.seating.specs.Steps.{Lent, PutAnswer, PutDoes, DropAnswer, DropDoes}
 use Rattle.seating.specs.Steps.PutAnswer.{seated, renewed, too_short, full}
-use Rattle.seating.specs.Steps.DropAnswer.{dropped, too_short as lentShort, not_held}
+use Rattle.seating.specs.Steps.DropAnswer.{dropped, too_short as lent_short, not_held}
 use Rattle.seating.specs.Tables.{Lawful, Sound}
 
 -- the map has a value for k
@@ -28,7 +28,7 @@ PutMaps m k v (full c) n = (m k ≡ None) × Same m n
 -- a drop of k: done, it takes k out and leaves the rest
 abbrev pub DropMaps : (Key → Option Value) → Key → DropAnswer → (Key → Option Value) → Type 0
 DropMaps m k (dropped _ _) n = Known m k × Same (update bytes_eq m k None) n
-DropMaps m k lentShort n = Same m n
+DropMaps m k lent_short n = Same m n
 DropMaps m k not_held n = (m k ≡ None) × Same m n
 
 abbrev pub PutMapLaw : Type 0

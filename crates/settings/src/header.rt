@@ -36,6 +36,7 @@ fn rule_word<'a>(s: &'a [u8]) -> Option<(RuleName, &'a [u8])>
     }
 }
 
+// The kind that a word names; no `TryFrom`, since the header is read by `?` on Options.
 fn kind_word(s: &[u8]) -> Option<KindName>
     ensures { result ≡ kind_word_lem s.now }
 {

@@ -7,7 +7,7 @@ use crate::header::{Header, KindName, read_header};
 use keys::Refusal;
 use rules::Builtin;
 
-#[derive(Clone, Copy, Debug)]
+#[derive(Clone, Copy, Debug, PartialEq, Eq)]
 pub struct Setting {
     pub rule: Builtin,
     pub seed: u32,

@@ -1,4 +1,4 @@
--- What a summary tells of a tally.
+-- What a summary tells of the counts.
 use Rattle.std.specs.Prelude.{◌≡◌, ℕ, ◌*◌, ◌/◌, List, length, sum, slice_index}
 use Rattle.spread.specs.Spreads.{idle, Busiest}
 use Rattle.spread.specs.declared.spread.reports.Summary.{Summary}

@@ -1,4 +1,5 @@
 // Examples, run.
 mod examples;
 mod inputs;
+mod placings;
 mod texts;

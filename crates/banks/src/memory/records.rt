@@ -38,6 +38,7 @@ pub fn set_slot<R: Copy>(
     ensures answer { result ≡ (if nat_lt i (length slots.old) then Ok tt else Err NoSlot) }
     ensures after { slots.new ≡ slice_set slots.old i slot }
 {
+    // by a test, since `get_mut` does not say what the slice ends as
     if i >= slots.len() {
         return Err(Refusal::NoSlot);
     }

@@ -4,6 +4,7 @@ ghost use Rattle.names.specs.Blank.{blank};
 ghost use Rattle.names.specs.Names.{name_bytes, name_of};
 ghost use Rattle.names.specs.NamesLemmas.{name_sized};
 
+use crate::name::make::is_name_length;
 use crate::name::{Name, NameRecord};
 use keys::Kind;
 
@@ -49,7 +50,7 @@ impl Kind for Name {
 
     fn restore(record: NameRecord) -> Option<Name> {
         let NameRecord { text, len } = record;
-        if len < 1 || len > 15 || !blank_from(&text, len) {
+        if !is_name_length(len) || !blank_from(&text, len) {
             return None;
         }
         Some(Name { record })

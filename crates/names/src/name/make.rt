@@ -1,5 +1,5 @@
 // Names made from bytes, and read as bytes.
-ghost use Rattle.std.specs.Prelude.{◌≡◌, ◌-◌, ◌≤◌, ◌++◌, length, replicate};
+ghost use Rattle.std.specs.Prelude.{◌≡◌, ◌-◌, ◌≤◌, ◌++◌, length, replicate, Decides};
 ghost use Rattle.std.specs.Result.{result_map_both};
 ghost use Rattle.names.specs.Names.{name_bytes, name_from};
 
@@ -16,13 +16,20 @@ fn padded(bytes: &[u8]) -> [u8; 15]
     text
 }
 
+// Whether a name may have so many bytes.
+pub(crate) fn is_name_length(len: usize) -> bool
+    ensures { Decides result ((1 ≤ len) × (len ≤ 15)) }
+{
+    1 <= len && len <= 15
+}
+
 impl Name {
     // The name of these bytes, or a refusal of none and of more than 15.
     pub fn new(bytes: &[u8]) -> Result<Name, Refusal>
         ensures { result_map_both name_bytes (λ e. e) result ≡ name_from bytes.now }
     {
         let len = bytes.len();
-        if len < 1 || len > 15 {
+        if !is_name_length(len) {
             return Err(Refusal::NameLength);
         }
         let text = padded(bytes);

@@ -44,7 +44,7 @@ fn lowest(count: DigitCount, buckets: usize, word: u32) -> Choices
     }
 }
 
-// Written out for each rule: one rule over a scheme would ask as much of the scheme, and a test with its law.
+// Each rule has its own: a generic rule would need the same members of a scheme, and a size test, so it is no plainer.
 impl<K: Kind> Rule<K> for Digits {
     ghost count = { digits_count };
 

@@ -33,7 +33,7 @@ fn halves(buckets: usize, word: u32) -> Choices
     Choices::Two([word % half, half + word / half % half])
 }
 
-// Written out for each rule: one rule over a scheme would ask as much of the scheme, and a test with its law.
+// Each rule has its own: a generic rule would need the same members of a scheme, and a size test, so it is no plainer.
 impl<K: Kind> Rule<K> for Two {
     ghost count = { two_count };
 

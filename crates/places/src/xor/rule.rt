@@ -14,7 +14,7 @@ use keys::{Kind, Refusal};
 
 impl Xor {
     // The rule with a power of two for the number of buckets, from 1 to 512.
-    #[tactic(auto, using(crate::specs::Powers::xor_size, crate::specs::Powers::power_of_xor))]
+    #[tactic(auto, using(crate::specs::Powers::tested_size, crate::specs::Powers::power_of_xor))]
     pub fn new(buckets: usize, seed: u32) -> Result<Xor, Refusal>
         ensures { MadeUnder (XorSize buckets) (ChoosesBy xor_count xor_places xor_choices buckets seed) result }
     {
@@ -30,11 +30,12 @@ fn partners(buckets: usize, word: u32) -> Choices
     ensures { listed result ≡ xor_choices buckets word }
 {
     let first = word as usize % buckets;
-    let turn = fnv1a_byte((word >> 24) as u8) as usize % buckets;
+    let [high, ..] = word.to_be_bytes();
+    let turn = fnv1a_byte(high) as usize % buckets;
     Choices::Two([first, first ^ turn])
 }
 
-// Written out for each rule: one rule over a scheme would ask as much of the scheme, and a test with its law.
+// Each rule has its own: a generic rule would need the same members of a scheme, and a size test, so it is no plainer.
 impl<K: Kind> Rule<K> for Xor {
     ghost count = { xor_count };
 
@@ -54,7 +55,7 @@ impl<K: Kind> Rule<K> for Xor {
         2
     }
 
-    #[tactic(auto, using(crate::specs::Powers::xor_size))]
+    #[tactic(auto, using(crate::specs::Powers::tested_size))]
     fn choices(&self, key: &K) -> Choices {
         partners(self.buckets, fnv1a(self.seed, key))
     }

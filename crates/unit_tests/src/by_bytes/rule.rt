@@ -42,6 +42,6 @@ impl<K: Kind> Rule<K> for ByBytes {
 
     fn choices(&self, key: &K) -> Choices {
         let n = self.buckets;
-        Choices::Two([key.byte(0) as usize % n, key.byte(1) as usize % n])
+        Choices::Two([usize::from(key.byte(0)) % n, usize::from(key.byte(1)) % n])
     }
 }

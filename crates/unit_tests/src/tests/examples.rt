@@ -145,7 +145,9 @@ fn bytes_of_a_flow(rt: HostRuntime) -> Result<(), Fail> {
 fn rule_of_a_customer(rt: HostRuntime) -> Result<(), Fail> {
     let rule = ByBytes::new(100)?;
     let name = named(&[7, 213, 9])?;
-    assert_eq!(rt; rule.choices(&name), Choices::Two([7, 13]));
+    let choices = rule.choices(&name);
+    assert_eq!(rt; choices, Choices::Two([7, 13]));
+    assert!(rt; choices.len() == 2 && choices.at(1) == 13 && choices.at(2) == 0);
     let short = named(&[7])?;
     assert_eq!(rt; rule.choices(&short), Choices::Two([7, 0]));
     assert!(rt; ByBytes::new(0).is_err() && ByBytes::new(513).is_err());
