@@ -34,6 +34,7 @@ fn lowest(count: DigitCount, buckets: usize, word: u32) -> Choices
     requires { DigitSize buckets }
     ensures { listed result ≡ digit_choices count buckets word }
 {
+    // by `as`, since no `From` widens a `u32` to a `usize`
     let word = word as usize;
     let first = word % buckets;
     let second = word / buckets % buckets;

@@ -29,6 +29,7 @@ fn halves(buckets: usize, word: u32) -> Choices
     ensures { listed result ≡ two_choices buckets word }
 {
     let half = buckets / 2;
+    // by `as`, since no `From` widens a `u32` to a `usize`
     let word = word as usize;
     Choices::Two([word % half, half + word / half % half])
 }

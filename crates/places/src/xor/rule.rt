@@ -29,6 +29,7 @@ fn partners(buckets: usize, word: u32) -> Choices
     requires { XorSize buckets }
     ensures { listed result ≡ xor_choices buckets word }
 {
+    // by `as`, since no `From` widens a `u32` to a `usize`
     let first = word as usize % buckets;
     let [high, ..] = word.to_be_bytes();
     let turn = fnv1a_byte(high) as usize % buckets;

@@ -56,6 +56,7 @@ impl Spread {
             idle: zeros(counts),
             busiest,
             keys: counts[busiest],
+            // by `as`, since no `From` widens a `usize`
             mean: total(counts) * 100 / counts.len() as u128,
         }
     }
