@@ -44,7 +44,7 @@ pub struct Moves {
     pub stashed: usize,
 }
 
-// What a put did.
+// What a put did. Both outcomes have names, since a `None` would not say that the key was renewed.
 #[derive(Clone, Copy, Debug, PartialEq, Eq)]
 pub enum Seated {
     // the key is new

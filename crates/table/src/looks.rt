@@ -11,7 +11,7 @@ use banks::{Bank, content_at};
 use keys::Kind;
 use places::Rule;
 
-#[derive(Clone, Copy)]
+#[derive(Clone, Copy, Debug, PartialEq, Eq)]
 pub(crate) struct Hit {
     pub(crate) slot: usize,
     pub(crate) value: u64,

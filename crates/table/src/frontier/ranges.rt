@@ -24,6 +24,7 @@ impl Frontier<'_> {
     {
         // a field is read, from which the proof has that the queue is tidy
         let _ = &self.tail;
+        // a `for` and no `any`: each step changes the queue
         for i in first..end {
             if self.push(i, from) && vacant_at(bank, i) {
                 return true;

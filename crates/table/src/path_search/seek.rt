@@ -1,4 +1,5 @@
 // The two searches: from a new key, and from the keys of the stash.
+// Each answers a bool: the end is always the last entry, so an Option of it would say that twice.
 ghost use Rattle.search.specs.Queues.{Fresh};
 ghost use Rattle.search.specs.Searches.{Waiting};
 ghost use Rattle.seating.specs.Layouts.{Candidate};
