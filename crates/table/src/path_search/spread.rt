@@ -42,8 +42,7 @@ impl<B: Bank, R: Rule<B::Key>> PathSearch<'_, '_, B, R> {
         // a look at the frontier, from which the proof has that it is tidy
         let _ = self.frontier.len();
         let table = self.table;
-        let stash = table.stash_slots();
-        for i in stash.start..stash.end {
+        for i in table.stash_slots() {
             if !vacant_at(&table.bank, i) {
                 self.frontier.push(i, None);
             }
