@@ -109,6 +109,10 @@ module _ (q : Queue) (s : Tidy q) (l i : ℕ) (low : i < length q.seen) (new : g
 pub tail_le : (q : Queue) → Tidy q → q.tail ≤ length q.seen
 tail_le q s = omega (arith, s.count, sum_by_le (λ x. x) 1 q.seen (All-from_get_or (λ x. x ≤ 1) _ 0 (λ j h. s.bits j)))
 
+-- the entries of a queue that is seen as v fit its rows
+pub entries_fit : {s a f : List ℕ} {t : ℕ} (v : Queue) → queue s a f t ≡ v → Tidy (queue s a f t) → v.tail ≤ length s
+entries_fit v e s = omega (arith, ap (λ (q : Queue). q.tail) e, tail_le _ s)
+
 -- one slot more of a queue that is seen as v
 module _ (q v : Queue) (l i : ℕ) (e : q ≡ v) (s : Tidy q) (low : i < length v.seen) (new : get_or q.seen i 0 ≡ 0) (le : l ≤ v.tail) where
   here : i < length q.seen

@@ -34,6 +34,7 @@ impl<'a> Frontier<'a> {
     }
 
     // How many entries there are.
+    #[tactic(auto, using(search::proofs::Queuing::entries_fit))]
     pub(crate) fn len(&self) -> usize
         ensures len { result ≡ self.now.tail }
         ensures few { self.now.tail < 2 ^ 32 }
@@ -43,6 +44,7 @@ impl<'a> Frontier<'a> {
     }
 
     // The slot of an entry.
+    #[tactic(auto, using(search::proofs::Queuing::entries_fit))]
     pub(crate) fn slot(&self, entry: usize) -> usize
         requires { entry < self.now.tail }
         ensures slot { result ≡ slot self.now entry }
@@ -53,6 +55,7 @@ impl<'a> Frontier<'a> {
     }
 
     // The entry that an entry was reached from; a root has none.
+    #[tactic(auto, using(search::proofs::Queuing::entries_fit))]
     pub(crate) fn before(&self, entry: usize) -> Option<usize>
         requires { entry < self.now.tail }
         ensures { link self.now entry ≡ link_to result }
@@ -63,6 +66,7 @@ impl<'a> Frontier<'a> {
 
     // Appends slot i as reached from an entry, or as a root, if it was not seen; whether it was appended.
     // The entry changes from call to call, so that it is there is asked, and is no invariant.
+    #[tactic(auto, using(search::proofs::Queuing::entries_fit))]
     pub(crate) fn push(&mut self, i: usize, from: Option<usize>) -> bool
         requires low { i < length self.old.seen }
         requires back { link_to from ≤ self.old.tail }

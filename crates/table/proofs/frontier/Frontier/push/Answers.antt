@@ -1,13 +1,10 @@
-use Rattle.std.proofs.Common.{◌<◌, length, ap, arith}
-use Rattle.search.specs.Queues.{Queue, link_to}
-use Rattle.search.proofs.Queuing.{tail_le, room_for, offered_for}
+use Rattle.std.proofs.Common.{◌<◌, length, arith}
+use Rattle.search.specs.Queues.{link_to}
+use Rattle.search.proofs.Queuing.{room_for, offered_for}
 use Rattle.table.proofs.frontier.Frontier.push.Goals as goal
 
 room : (c : goal.Else-self-i-ne0) → (c.self.inside.tail < length c.self.inside.seen.now) × (link_to c.args.from < length c.self.inside.seen.now)
 room c = room_for _ _ _ _ c.self.view_is c.self.invariant c.requires.low c.if-self-i-ne0.false c.requires.back
-
-pub link_to-link-requires : goal.link_to-link-requires
-link_to-link-requires c = omega (arith, c.requires.back, ap (λ (q : Queue). q.tail) c.self.view_is, tail_le _ c.self.invariant, c.self.invariant.fits)
 
 pub offset_bounds-self-inside-tail : goal.offset_bounds-self-inside-tail
 offset_bounds-self-inside-tail c = omega (arith, room c, c.self.invariant.fits)
