@@ -4,11 +4,12 @@ use mathlib.Core.List.Memᴰ
 use mathlib.Core.List.{Memᴰ}
 use Rattle.std.specs.List.{range_with_len, flat_map}
 use Rattle.std.proofs.lemmas.List.{take_more}
+use Rattle.std.proofs.lemmas.List.FromFn.{length-range_with_len}
 use Rattle.std.proofs.lemmas.Grind.{flat_map-append}
 use Rattle.seating.specs.Layouts.{Key, Value, Content}
 use Rattle.seating.specs.Lookups.{looked, look_in}
 use Rattle.seating.specs.Slots.{at, value_at}
-use Rattle.seating.proofs.Looking.{in_front, in_back, looks_few as few}
+use Rattle.seating.proofs.Looking.{in_front, in_back, looks_few}
 use Rattle.seating.proofs.Values.{has_or_not}
 use Rattle.table.specs.Looks.{Looks}
 use Rattle.table.specs.declared.looks.Hit.{Hit}
@@ -113,20 +114,21 @@ module _ (xs : List Content) (k : Key) (a j : ℕ) where
       let m : (j + 1) + (n - (j + 1)) ≡ n = omega arith in
       rw (sym (counting_split (j + 1) a (n - (j + 1))) ∙ ap (range_with_len a) m) at (looks_stop xs k (range_with_len a (j + 1)) (range_with_len (a + (j + 1)) (n - (j + 1))) _ refl here)
 
--- one bucket more
-module _ (xs : List Content) (k : Key) (f : ℕ → List ℕ) (bs : List ℕ) (j n : ℕ) (l : j < length bs) (before : Looks xs k (flat_map f (take j bs)) (unfound n)) where
-  one_bucket : flat_map f (take j bs) ++ f (get_or bs j 0) ≡ flat_map f (take (j + 1) bs)
-  one_bucket = sym (ap (flat_map f) (take_more bs j 0 l) ∙ flat_map-append f (take j bs) (get_or bs j 0 ∷ []) ∙ ap (λ (t : List ℕ). flat_map f (take j bs) ++ t) (append-nil (f (get_or bs j 0))))
+-- one bucket more of the chosen ones, which are read as cs
+module _ (xs : List Content) (k : Key) (f : ℕ → List ℕ) (bs cs : List ℕ) (is : cs ≡ bs) (j n : ℕ) (l : j < length cs) (before : Looks xs k (flat_map f (take j bs)) (unfound n)) where
+  one_bucket : flat_map f (take j bs) ++ f (get_or cs j 0) ≡ flat_map f (take (j + 1) bs)
+  one_bucket = rw (← is) (sym (ap (flat_map f) (take_more cs j 0 l) ∙ flat_map-append f (take j cs) (get_or cs j 0 ∷ []) ∙ ap (λ (t : List ℕ). flat_map f (take j cs) ++ t) (append-nil (f (get_or cs j 0)))))
 
-  pub bucket_more : (t : Looked Hit) → Looks xs k (f (get_or bs j 0)) t → Looks xs k (flat_map f (take (j + 1) bs)) (record { found = t.found; looks = n + t.looks })
-  bucket_more t s = rw one_bucket at (looks_then xs k (flat_map f (take j bs)) (f (get_or bs j 0)) n t before s)
+  pub bucket_more : (t : Looked Hit) → Looks xs k (f (get_or cs j 0)) t → Looks xs k (flat_map f (take (j + 1) bs)) (record { found = t.found; looks = n + t.looks })
+  bucket_more t s = rw one_bucket at (looks_then xs k (flat_map f (take j bs)) (f (get_or cs j 0)) n t before s)
 
-  pub bucket_hit : (t : Looked Hit) → is_some t.found ≡ true → Looks xs k (f (get_or bs j 0)) t → Looks xs k (flat_map f bs) (record { found = t.found; looks = n + t.looks })
+  pub bucket_hit : (t : Looked Hit) → is_some t.found ≡ true → Looks xs k (f (get_or cs j 0)) t → Looks xs k (flat_map f bs) (record { found = t.found; looks = n + t.looks })
   bucket_hit t e s =
       let here = bucket_more t s in
       let whole : flat_map f (take (j + 1) bs) ++ flat_map f (drop (j + 1) bs) ≡ flat_map f bs =
       sym (flat_map-append f (take (j + 1) bs) (drop (j + 1) bs)) ∙ ap (flat_map f) (take-append-drop (j + 1) bs) in
       rw whole at (looks_stop xs k (flat_map f (take (j + 1) bs)) (flat_map f (drop (j + 1) bs)) _ e here)
 
-pub looks_few : (xs : List Content) (k : Key) (is : List ℕ) (t : Looked Hit) → Looks xs k is t → t.looks ≤ length is
-looks_few xs k is t l = omega (arith, l.count, few xs k is)
+-- no more looks at a range than it has slots
+pub range_few : {xs : List Content} {k : Key} (a n : ℕ) (t : Looked Hit) → Looks xs k (range_with_len a n) t → t.looks ≤ n
+range_few {xs = xs} {k = k} a n t l = omega (arith, l.count, looks_few xs k (range_with_len a n), length-range_with_len a n)

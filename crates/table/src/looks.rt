@@ -48,6 +48,7 @@ fn look_range<B: Bank>(bank: &B, key: &B::Key, first: usize, count: usize) -> Lo
 
 impl<B: Bank, R: Rule<B::Key>> Table<B, R> {
     // Looks at the candidates of the key, choice by choice.
+    #[tactic(auto, using(crate::proofs::Looking::range_few))]
     fn look_near(&self, key: &B::Key) -> Looked<Hit>
         ensures looks { Looks (contents self.now) (B.Key.Kind.bytes key.now) (flat_map (bucket_list (layout self.now)) (R.Rule.places self.now.rule (B.Key.Kind.bytes key.now))) result }
         ensures few { result.looks ≤ 12 }
@@ -68,6 +69,7 @@ impl<B: Bank, R: Rule<B::Key>> Table<B, R> {
     }
 
     // Looks at the candidates of the key and then at the stash.
+    #[tactic(auto, using(crate::proofs::Looking::range_few))]
     pub(crate) fn look_up(&self, key: &B::Key) -> Looked<Hit>
         ensures { Looks (contents self.now) (B.Key.Kind.bytes key.now) (look_order (layout self.now) (B.Key.Kind.bytes key.now)) result }
     {
