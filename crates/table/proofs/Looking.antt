@@ -1,5 +1,5 @@
 -- Looks at some slots and then at others.
-use Rattle.std.proofs.Common.{◌≡◌, ℕ, ◌+◌, ◌-◌, ◌<◌, ◌≤◌, true, false, List, [], ◌∷◌, ◌++◌, length, get_or, take, drop, is_some, Some, None, Option, sym, refl, ap, ◌∙◌, inl, inr, append-nil, arith, take-append-drop, MatchOption}
+use Rattle.std.proofs.Common.{◌≡◌, ℕ, ◌+◌, ◌<◌, ◌≤◌, true, false, List, [], ◌∷◌, ◌++◌, length, get_or, take, drop, is_some, Some, None, Option, sym, refl, ap, ◌∙◌, inl, inr, append-nil, arith, take-append-drop, MatchOption}
 use mathlib.Core.List.Memᴰ
 use mathlib.Core.List.{Memᴰ}
 use Rattle.std.specs.List.{range_with_len, flat_map}
@@ -13,7 +13,7 @@ use Rattle.seating.proofs.Looking.{in_front, in_back, looks_few}
 use Rattle.seating.proofs.Values.{has_or_not}
 use Rattle.table.specs.Looks.{Looks}
 use Rattle.table.specs.declared.looks.Hit.{Hit}
-use Rattle.table.proofs.Ranges.{counting_split, one_more}
+use Rattle.table.proofs.Ranges.{one_more, take_range}
 use Rattle.table.specs.declared.Looked.{Looked}
 
 look_through : (xs : List Content) (k : Key) (is js : List ℕ) → (look_in xs k is).0 ≡ None
@@ -104,15 +104,15 @@ look_hit xs k i v e = record {
 
 module _ (xs : List Content) (k : Key) (a j : ℕ) where
   pub range_more : None ≡ value_at k (at xs (a + j)) → Looks xs k (range_with_len a j) (unfound j) → Looks xs k (range_with_len a (j + 1)) (unfound (j + 1))
-  range_more e l = rw (one_more a j) at (looks_then xs k (range_with_len a j) ((a + j) ∷ []) j (unfound 1) l (look_miss xs k (a + j) e))
+  range_more e l = rw (one_more a j) (looks_then xs k (range_with_len a j) ((a + j) ∷ []) j (unfound 1) l (look_miss xs k (a + j) e))
 
   pub range_hit : (n v : ℕ) → j < n → Some v ≡ value_at k (at xs (a + j)) → Looks xs k (range_with_len a j) (unfound j)
       → Looks xs k (range_with_len a n) (record { found = Some (record { slot = a + j; value = v }); looks = j + 1 })
   range_hit n v l e s =
       let here : Looks xs k (range_with_len a (j + 1)) (record { found = Some (record { slot = a + j; value = v }); looks = j + 1 }) =
-      rw (one_more a j) at (looks_then xs k (range_with_len a j) ((a + j) ∷ []) j _ s (look_hit xs k (a + j) v e)) in
-      let m : (j + 1) + (n - (j + 1)) ≡ n = omega arith in
-      rw (sym (counting_split (j + 1) a (n - (j + 1))) ∙ ap (range_with_len a) m) at (looks_stop xs k (range_with_len a (j + 1)) (range_with_len (a + (j + 1)) (n - (j + 1))) _ refl here)
+      rw (one_more a j) (looks_then xs k (range_with_len a j) ((a + j) ∷ []) j _ s (look_hit xs k (a + j) v e)) in
+      let first : take (j + 1) (range_with_len a n) ≡ range_with_len a (j + 1) = take_range a n (j + 1) (omega arith) in
+      rw (take-append-drop (j + 1) (range_with_len a n)) at (looks_stop xs k (take (j + 1) (range_with_len a n)) (drop (j + 1) (range_with_len a n)) _ refl (rw (← first) at here))
 
 -- one bucket more of the chosen ones, which are read as cs
 module _ (xs : List Content) (k : Key) (f : ℕ → List ℕ) (bs cs : List ℕ) (is : cs ≡ bs) (j n : ℕ) (l : j < length cs) (before : Looks xs k (flat_map f (take j bs)) (unfound n)) where

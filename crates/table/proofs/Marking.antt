@@ -1,14 +1,12 @@
 -- The marked numbers at the front of a list, one more number looked at.
-use Rattle.std.proofs.Common.{◌≡◌, ℕ, suc, ◌+◌, ◌<◌, Bool, true, false, cond, List, [], ◌∷◌, ◌++◌, length, get_or, drop, set, filter, sym, refl, ap, ◌∙◌, append-nil, add-one, arith, length-append, drop-cons}
+use Rattle.std.proofs.Common.{◌≡◌, ℕ, suc, ◌+◌, ◌<◌, Bool, true, false, cond, List, [], ◌∷◌, ◌++◌, length, get_or, drop, set, sym, refl, ap, ◌∙◌, append-nil, add-one, arith, length-append, drop-cons}
 use lib.Seq.{set_at, append_snoc}
-use Rattle.std.specs.List.{range_with_len}
-use Rattle.std.proofs.lemmas.List.Elements.{filter-append}
 use Rattle.search.specs.Searches.{marked, marked_below}
 use Rattle.table.specs.Views.{Listed}
-use Rattle.table.proofs.Ranges.{range_end}
+use Rattle.table.proofs.Ranges.{filter_more}
 
 marked_more : (marks : List ℕ) (n : ℕ) (b : Bool) → marked marks n ≡ b → marked_below marks (n + 1) ≡ marked_below marks n ++ cond b (n ∷ []) []
-marked_more marks n b e = ap (filter (marked marks)) (sym (range_end n)) ∙ filter-append (marked marks) (range_with_len 0 n) (n ∷ []) ∙ rw e refl
+marked_more marks n b e = filter_more (marked marks) 0 n n (omega arith) ∙ rw e refl
 
 pub marked_not : (marks : List ℕ) (n : ℕ) (was is : List ℕ) (r : ℕ) → marked marks n ≡ false → Listed (marked_below marks n) was r is → Listed (marked_below marks (n + 1)) was r is
 marked_not marks n was is r e l =

@@ -1,17 +1,14 @@
--- Numbers in a row, taken apart.
-use Rattle.std.proofs.Common.{◌≡◌, ℕ, zero, suc, ◌+◌, List, [], ◌∷◌, ◌++◌, sym, refl, ap, ◌∙◌, arith}
+-- Numbers in a row, one more of them and the first of them: the library's lemmas on a list by index, at the index itself.
+use Rattle.std.proofs.Common.{◌≡◌, ℕ, ◌+◌, ◌≤◌, Bool, cond, filter, [], ◌∷◌, ◌++◌, take, refl}
 use Rattle.std.specs.List.{range_with_len}
+use Rattle.std.proofs.lemmas.List.{map-id}
+use Rattle.std.proofs.lemmas.List.FromFn.{map-range_with_len_more, take-map-range_with_len, filter_of_map_range_with_len_more}
 
-pub counting_split : (m a n : ℕ) → range_with_len a (m + n) ≡ range_with_len a m ++ range_with_len (a + m) n
-counting_split zero a n =
-    let e : 0 + n ≡ n = omega arith in let f : a + 0 ≡ a = omega arith in rw (e, f) refl
-counting_split (suc m) a n =
-    let e : suc m + n ≡ suc (m + n) = omega arith in
-    let f : (a + 1) + m ≡ a + suc m = omega arith in
-    ap (range_with_len a) e ∙ ap (λ (xs : List ℕ). a ∷ xs) (counting_split m (a + 1) n ∙ ap (λ x. range_with_len (a + 1) m ++ range_with_len x n) f)
+pub one_more : (a n : ℕ) → range_with_len a (n + 1) ≡ range_with_len a n ++ (a + n) ∷ []
+one_more a n = simp map-id at (map-range_with_len_more (λ x. x) a n (a + n) refl)
 
-pub one_more : (a j : ℕ) → range_with_len a j ++ (a + j) ∷ [] ≡ range_with_len a (j + 1)
-one_more a j = sym (counting_split j a 1)
+pub take_range : (a n k : ℕ) → k ≤ n → take k (range_with_len a n) ≡ range_with_len a k
+take_range a n k h = simp map-id at (take-map-range_with_len (λ x. x) a n k h)
 
-pub range_end : (j : ℕ) → range_with_len 0 j ++ j ∷ [] ≡ range_with_len 0 (j + 1)
-range_end j = let z : 0 + j ≡ j = omega arith in rw z at (one_more 0 j)
+pub filter_more : (p : ℕ → Bool) (a n j : ℕ) → a + n ≡ j → filter p (range_with_len a (n + 1)) ≡ filter p (range_with_len a n) ++ cond (p j) (j ∷ []) []
+filter_more p a n j e = simp map-id at (filter_of_map_range_with_len_more p (λ x. x) a n j e)

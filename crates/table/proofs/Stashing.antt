@@ -1,8 +1,7 @@
 -- One more slot counted, and one more slot emptied.
-use Rattle.std.proofs.Common.{◌≡◌, ℕ, zero, suc, ◌+◌, ◌-◌, ◌<◌, Bool, true, false, not, cond, filter, get_or, MatchOption, Option, Some, None, List, [], ◌∷◌, ◌++◌, length, take, drop, set, replicate, subst, sym, refl, ap, ◌∙◌, add-one, arith, length-append, get_or-drop, drop-cons}
+use Rattle.std.proofs.Common.{◌≡◌, ℕ, zero, suc, ◌+◌, ◌-◌, ◌<◌, Bool, true, false, not, cond, filter, get_or, MatchOption, Option, Some, None, List, [], ◌∷◌, ◌++◌, length, take, drop, set, replicate, sym, refl, ap, ◌∙◌, add-one, arith, length-append, get_or-drop, drop-cons}
 use lib.ListN.{length-replicate}
 use Rattle.std.specs.List.{range_with_len, AllWithin, HoldsAt}
-use Rattle.std.proofs.lemmas.List.Elements.{filter-append}
 use Rattle.std.proofs.lemmas.List.FromFn.{length-range_with_len, get_or-range_with_len}
 use lib.Seq.{set_at, append_snoc}
 use Rattle.std.proofs.lemmas.List.{replicate_more}
@@ -11,7 +10,7 @@ use Rattle.seating.specs.Layouts.{Content, Layout, bucket_slots, Stash}
 use Rattle.seating.specs.Layouts.Content.{vacant, holding}
 use Rattle.seating.specs.Slots.{at, keys}
 use Rattle.table.specs.Shapes.{is_vacant}
-use Rattle.table.proofs.Ranges.{one_more}
+use Rattle.table.proofs.Ranges.{filter_more}
 
 pub vacant_if : (c : Content) → is_vacant c ≡ true → c ≡ vacant
 vacant_if vacant e = refl
@@ -51,11 +50,10 @@ holds_one (holding k v) i = refl
 pub held_count : (xs : List Content) (a n : ℕ) → length (filter (holds xs) (range_with_len a n)) ≡ held_from xs a n
 held_count xs a zero = refl
 held_count xs a (suc n) =
-    let front = range_with_len a n in
-    let e : length (filter (holds xs) (range_with_len a (n + 1))) ≡ length (filter (holds xs) front ++ filter (holds xs) ((a + n) ∷ [])) =
-    ap (λ is. length (filter (holds xs) is)) (sym (one_more a n)) ∙ ap length (filter-append (holds xs) front ((a + n) ∷ [])) in
-    subst (λ m. length (filter (holds xs) (range_with_len a m)) ≡ held_from xs a m) (add-one n)
-    (omega (arith, e, length-append (filter (holds xs) front) (filter (holds xs) ((a + n) ∷ [])), held_count xs a n, held_more xs a n, holds_one (at xs (a + n)) (a + n)))
+    let e = simp length-append at (ap length (filter_more (holds xs) a n (a + n) refl)) in
+    let more : length (filter (holds xs) (range_with_len a (n + 1))) ≡ held_from xs a (n + 1) =
+    omega (arith, e, held_count xs a n, held_more xs a n, holds_one (at xs (a + n)) (a + n)) in
+    rw (add-one n) at more
 
 -- what a search of the stash found first, by the numbers that it went through
 pub first_in : (L : Layout) (xs : List Content) (a n : ℕ) (r : Option ℕ) → a ≡ bucket_slots L → n ≡ L.stash
