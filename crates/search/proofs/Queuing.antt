@@ -113,6 +113,15 @@ tail_le q s = omega (arith, s.count, sum_by_le (λ x. x) 1 q.seen (All-from_get_
 pub entries_fit : {s a f : List ℕ} {t : ℕ} (v : Queue) → queue s a f t ≡ v → Tidy (queue s a f t) → v.tail ≤ length s
 entries_fit v e s = omega (arith, ap (λ (q : Queue). q.tail) e, tail_le _ s)
 
+-- there is room for slot i, but if it was seen
+pub room_left : {a f : List ℕ} {t : ℕ} {v : Queue} (s : List ℕ) (i : ℕ) → queue s a f t ≡ v → Tidy (queue s a f t) → i < length v.seen → t < get_or s i 0 + length s
+room_left s i e tidy low =
+    let here : i < length s = omega (arith, ap (λ (q : Queue). length q.seen) e) in
+    elim (cases_eq (get_or s i 0) 0) [
+      | inl new ↦ omega (arith, room _ tidy 0 i here new (omega arith))
+      | inr seen ↦ omega (arith, tail_le _ tidy)
+    ]
+
 -- one slot more of a queue that is seen as v
 module _ (q v : Queue) (l i : ℕ) (e : q ≡ v) (s : Tidy q) (low : i < length v.seen) (new : get_or q.seen i 0 ≡ 0) (le : l ≤ v.tail) where
   here : i < length q.seen
@@ -120,9 +129,6 @@ module _ (q v : Queue) (l i : ℕ) (e : q ≡ v) (s : Tidy q) (low : i < length 
 
   back : l ≤ q.tail
   back = omega (arith, ap (λ (q : Queue). q.tail) e)
-
-  pub room_for : (q.tail < length q.seen) × (l < length q.seen)
-  room_for = let r = room q s l i here new back in (r, omega (arith, r, back))
 
   -- w is the word that the link was written as
   pub offered_for : (w : ℕ) → w ≡ l → Offered l i v (queue (set q.seen i 1) (set q.at q.tail i) (set q.from q.tail w) (q.tail + 1))

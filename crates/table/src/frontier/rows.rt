@@ -66,7 +66,7 @@ impl<'a> Frontier<'a> {
 
     // Appends slot i as reached from an entry, or as a root, if it was not seen; whether it was appended.
     // The entry changes from call to call, so that it is there is asked, and is no invariant.
-    #[tactic(auto, using(search::proofs::Queuing::entries_fit))]
+    #[tactic(auto, using(search::proofs::Queuing::entries_fit, search::proofs::Queuing::room_left))]
     pub(crate) fn push(&mut self, i: usize, from: Option<usize>) -> bool
         requires low { i < length self.old.seen }
         requires back { link_to from ≤ self.old.tail }
