@@ -118,16 +118,22 @@ range_onto l a i h m j t = elim (cases_lt j i) [
   | inr n ↦ inr (t.0, omega (arith, t.1.1))
 ]
 
--- one bucket more
-module _ (l w : ℕ) (bs : List ℕ) (n a : ℕ) (is : a ≡ get_or bs n 0 * w) where
-  pub under_into : (e : ℕ) → n < e → (m j : ℕ) → Toward l (InFirst w bs n) m j ⊎ Toward l (Between a (a + w)) m j → Toward l (InFirst w bs e) m j
-  under_into e h m j (inl t) = (t.0, (t.1.0, omega (arith, t.1.1), t.1.2, t.1.3))
-  under_into e h m j (inr t) = (t.0, (n, h, omega (arith, t.1.0), omega (arith, t.1.1)))
+-- one bucket more of the chosen ones, which are read as cs
+module _ (l w : ℕ) (bs cs : List ℕ) (is : cs ≡ bs) (n : ℕ) where
+  abbrev first : ℕ
+  first = get_or cs n 0 * w
 
-  pub under_onto : (m j : ℕ) → Toward l (InFirst w bs (n + 1)) m j → Toward l (InFirst w bs n) m j ⊎ Toward l (Between a (a + w)) m j
+  same : first ≡ get_or bs n 0 * w
+  same = ap (λ (xs : List ℕ). get_or xs n 0 * w) is
+
+  pub under_into : (e : ℕ) → n < e → (m j : ℕ) → Toward l (InFirst w bs n) m j ⊎ Toward l (Between first (first + w)) m j → Toward l (InFirst w bs e) m j
+  under_into e h m j (inl t) = (t.0, (t.1.0, omega (arith, t.1.1), t.1.2, t.1.3))
+  under_into e h m j (inr t) = (t.0, (n, h, omega (arith, same, t.1.0), omega (arith, same, t.1.1)))
+
+  pub under_onto : (m j : ℕ) → Toward l (InFirst w bs (n + 1)) m j → Toward l (InFirst w bs n) m j ⊎ Toward l (Between first (first + w)) m j
   under_onto m j t = elim (cases_lt t.1.0 n) [
     | inl o ↦ inl (t.0, (t.1.0, o, t.1.2, t.1.3))
     | inr k ↦ (let e : t.1.0 ≡ n = omega (arith, t.1.1) in
-        let f : get_or bs t.1.0 0 * w ≡ a = ap (λ x. get_or bs x 0 * w) e ∙ sym is in
+        let f : get_or bs t.1.0 0 * w ≡ first = ap (λ x. get_or bs x 0 * w) e ∙ sym same in
         inr (t.0, (omega (arith, t.1.2), omega (arith, t.1.3))))
   ]

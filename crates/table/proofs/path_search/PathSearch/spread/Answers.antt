@@ -1,4 +1,4 @@
-use Rattle.std.proofs.Common.{◌≡◌, ℕ, ◌*◌, List, length, get_or, ap, ◌∙◌, arith}
+use Rattle.std.proofs.Common.{◌≡◌, ℕ, List, length, ap, ◌∙◌, arith}
 use Rattle.search.specs.Queues.{link_to}
 use Rattle.search.proofs.Spreading.{spread_as, struck_as, spread_then, struck_then, under_into, under_onto}
 use Rattle.table.specs.Shapes.{layout}
@@ -14,16 +14,14 @@ returns-then-offer g c =
       c.loop-b.invariant.0,
       struck_as _ _ _ _ (to_candidates (layout t) (table_sized t g.met.R.Rule.placed) k (link_to c.args.from))
           (struck_then _ _ _ _ c.loop-b.invariant.1
-          (under_into _ _ _ _ _ (ap (λ (bs : List ℕ). get_or bs c.loop-b.b-index 0 * t.width) e) _ (omega (arith, n, c.loop-b-test.true)))
+          (under_into _ _ _ _ e _ _ (omega (arith, n, c.loop-b-test.true)))
           _ c.if-offer.ensures),
     )
 
 pub loop-b-preserved : goal.loop-b-preserved
 loop-b-preserved g c =
-    let t = c.args.self.now.table.now in
     let e = c.as_slice-b-items.ensures.value ∙ c.choices-choices.ensures in
-    let is = ap (λ (bs : List ℕ). get_or bs c.loop-b.b-index 0 * t.width) e in
-    (c.loop-b.invariant.0, spread_then _ _ _ _ c.loop-b.invariant.1 (under_into _ _ _ _ _ is _ (omega arith)) (under_onto _ _ _ _ _ is) c.if-offer.ensures)
+    (c.loop-b.invariant.0, spread_then _ _ _ _ c.loop-b.invariant.1 (under_into _ _ _ _ e _ _ (omega arith)) (under_onto _ _ _ _ e _) c.if-offer.ensures)
 
 pub returns : goal.returns
 returns g c =
