@@ -4,8 +4,8 @@ ghost use Rattle.search.specs.Queues.{Tidy, Fresh, Offered, slot, link, link_to}
 
 use crate::frontier::Frontier;
 
-// The link to an entry, in a word; 0 for none. By the invariant of the queue it fits, and a slot does, so
-// both are cast: `try_from` would add a refusal that cannot come.
+// The link to an entry, in a word; 0 for none.
+// An invariant says that it fits, as a slot does below: `try_from` would add a refusal that cannot come.
 fn link_to(from: Option<usize>) -> u32
     requires { link_to from < 2 ^ 32 }
     ensures { result ≡ link_to from }
