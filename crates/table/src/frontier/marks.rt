@@ -16,6 +16,7 @@ impl Frontier<'_> {
         let mut count = 0;
         for (i, mark) in seen.iter().enumerate() {
             if *mark == 1 {
+                // it fits, since a tidy queue has fewer than 2 ^ 32 slots
                 list[count] = i as u32;
                 count += 1;
             }
