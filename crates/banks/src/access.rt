@@ -13,7 +13,8 @@ pub fn content_at<B: Bank>(bank: &B, i: usize) -> Option<Entry<B::Key>>
     bank.read(i).unwrap_or(None)
 }
 
-// Has slot i hold the content, or empties it.
+// Has slot i hold the content, or empties it. `stays`, here and above a bank, relates the bank before and after, and so
+// is no invariant.
 pub fn set_content<B: Bank>(
     bank: &mut B,
     i: usize,

@@ -30,7 +30,8 @@ fn read_endpoint<'a>(s: &'a [u8], mark: u8) -> Option<(SocketAddrV4, &'a [u8])>
     Some((SocketAddrV4::new(address, u16::try_from(port).ok()?), s))
 }
 
-// The number of an address, by its octets, of which the clause speaks; `u32::from` would need a lemma.
+// The number of an address, by its octets: `u32::from` was tried, and its proof did not close, since no clause
+// says there that the octets are four bytes.
 fn number_of(address: &Ipv4Addr) -> u32
     ensures { four result [] ≡ ipv4_octets address.now }
 {

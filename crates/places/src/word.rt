@@ -20,7 +20,7 @@ pub fn fnv1a<K: Kind>(seed: u32, key: &K) -> u32
     ensures { result ≡ fnv seed (K.Kind.bytes key.now) }
 {
     let mut word = OFFSET ^ seed;
-    // by index, since a kind gives its bytes one at a time
+    // `(0..key.len()).fold(..)` was tried, and its proof did not close
     for i in 0..key.len() {
         word = step(word, key.byte(i));
     }

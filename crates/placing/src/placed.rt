@@ -42,7 +42,7 @@ impl<K: Spelled> Placed<K> {
         self.key.write(out)?;
         let word = self.word;
         let buckets = Buckets(self.choices.as_slice());
-        // by a text of its own: `write!` into the vector has another error than want of memory
+        // a text first, for the error of `write!` does not tell want of memory
         let text = format!(in *out.allocator(); " 0x{word:08x}{buckets}\n")?;
         out.extend_from_slice(text.as_bytes())
     }

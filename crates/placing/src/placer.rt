@@ -76,7 +76,7 @@ impl<'a, R> Placer<'a, R> {
                 Ok(Outcome::Placed)
             }
             Err(refusal) => {
-                // by a text of its own, for the error of `write!` is another
+                // a text first, for the error of `write!` does not tell want of memory
                 let text = format!(in *out.allocator(); "{refusal}\n")?;
                 out.extend_from_slice(text.as_bytes())?;
                 Ok(Outcome::Refused)

@@ -24,6 +24,7 @@ pub struct Header {
 const ANY: u64 = 1_000_000_000_000_000_000;
 
 // The rule in front, and what stands behind the space.
+// By patterns, which give that too, as no `TryFrom` does.
 fn rule_word<'a>(s: &'a [u8]) -> Option<(RuleName, &'a [u8])>
     ensures { option_map (λ p. (p.0, p.1.now)) result ≡ rule_word_lem s.now }
 {

@@ -15,6 +15,7 @@ use places::Rule;
 impl<B: Bank, R: Rule<B::Key>> Table<B, R> {
     // Where a key of the stash has a path, carries out a shortest one over all of them and empties that
     // slot of the stash; the number of moves.
+    // `keeps` relates the table before and after, and so is no invariant.
     fn settle(&mut self, work: &mut [u32]) -> usize
         requires { 3 * slots (layout self.old) ≤ length work.old }
         ensures keeps { Keeps self.old self.new }

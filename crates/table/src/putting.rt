@@ -13,6 +13,7 @@ use places::Rule;
 
 impl<B: Bank, R: Rule<B::Key>> Table<B, R> {
     // Seats a key that is not held: by a shortest path, else in the stash, else not at all.
+    // `keeps` relates the table before and after, and so is no invariant.
     fn seat(
         &mut self,
         entry: Entry<B::Key>,
@@ -38,6 +39,7 @@ impl<B: Bank, R: Rule<B::Key>> Table<B, R> {
     }
 
     // Gives a held key its new value, or seats another.
+    // `keeps` relates the table before and after, and so is no invariant.
     fn place(
         &mut self,
         entry: Entry<B::Key>,

@@ -15,7 +15,7 @@ pub(crate) fn vacant_at<B: Bank>(bank: &B, i: usize) -> bool
     content_at(bank, i).is_none()
 }
 
-// Empties the first n slots.
+// Empties the first n slots. `stays` relates the bank before and after, and so is no invariant.
 pub(crate) fn empty_front<B: Bank>(bank: &mut B, n: usize)
     ensures after { n ≤ length (B.Bank.slots bank.old) → B.Bank.slots bank.new ≡ replicate n vacant ++ drop n (B.Bank.slots bank.old) }
     ensures stays { B.Bank.place bank.new ≡ B.Bank.place bank.old }

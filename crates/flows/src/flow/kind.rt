@@ -34,13 +34,14 @@ impl From<Flow> for [u8; LENGTH] {
     }
 }
 
-// Flows are the same exactly when their bytes are; taken by value, so that their sizes are known.
+// Flows are the same exactly when their bytes are. By value, for then the proof has that each part fits its type.
 fn equal(flow: Flow, other: Flow) -> bool
     ensures { Decides result (flow_bytes flow ≡ flow_bytes other) }
 {
     flow == other
 }
 
+// `same`, `record` and `restore` by hand: they are of the trait that a customer's kind of key has too.
 impl Kind for Flow {
     // a flow holds plain data, and every such data is a flow
     type Record = Flow;

@@ -23,6 +23,7 @@ fn blank_from(text: &[u8; 15], n: usize) -> bool
     all_zero(&text[n..])
 }
 
+// `same`, `record` and `restore` by hand: they are of the trait that a customer's kind of key has too.
 impl Kind for Name {
     type Record = NameRecord;
 

@@ -45,7 +45,7 @@ fn lowest(count: DigitCount, buckets: usize, word: u32) -> Choices
     }
 }
 
-// Each rule has its own: a generic rule would need the same members of a scheme, and a size test, so it is no plainer.
+// A generic rule would take the same ghost members from a second trait, and a test of sizes, so it is no plainer.
 impl<K: Kind> Rule<K> for Digits {
     ghost count = { digits_count };
 

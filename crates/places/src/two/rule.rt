@@ -34,7 +34,7 @@ fn halves(buckets: usize, word: u32) -> Choices
     Choices::Two([word % half, half + word / half % half])
 }
 
-// Each rule has its own: a generic rule would need the same members of a scheme, and a size test, so it is no plainer.
+// A generic rule would take the same ghost members from a second trait, and a test of sizes, so it is no plainer.
 impl<K: Kind> Rule<K> for Two {
     ghost count = { two_count };
 

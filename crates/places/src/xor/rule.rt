@@ -36,7 +36,7 @@ fn partners(buckets: usize, word: u32) -> Choices
     Choices::Two([first, first ^ turn])
 }
 
-// Each rule has its own: a generic rule would need the same members of a scheme, and a size test, so it is no plainer.
+// A generic rule would take the same ghost members from a second trait, and a test of sizes, so it is no plainer.
 impl<K: Kind> Rule<K> for Xor {
     ghost count = { xor_count };
 

@@ -21,6 +21,7 @@ impl Builtin {
     }
 }
 
+// By matches, since a function may not make a `dyn` rule and hand it out.
 impl<K: Kind> Rule<K> for Builtin {
     ghost count = { builtin_count };
 

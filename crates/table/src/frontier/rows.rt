@@ -43,7 +43,7 @@ impl<'a> Frontier<'a> {
         self.tail
     }
 
-    // The slot of an entry.
+    // The slot of an entry; by `as`, since no `From` widens a `u32` to a `usize`.
     #[tactic(auto, using(search::proofs::Queuing::entries_fit))]
     pub(crate) fn slot(&self, entry: usize) -> usize
         requires { entry < self.now.tail }
@@ -54,7 +54,7 @@ impl<'a> Frontier<'a> {
         row[entry] as usize
     }
 
-    // The entry that an entry was reached from; a root has none.
+    // The entry that an entry was reached from; a root has none. By `as`, as above.
     #[tactic(auto, using(search::proofs::Queuing::entries_fit))]
     pub(crate) fn before(&self, entry: usize) -> Option<usize>
         requires { entry < self.now.tail }
@@ -65,7 +65,7 @@ impl<'a> Frontier<'a> {
     }
 
     // Appends slot i as reached from an entry, or as a root, if it was not seen; whether it was appended.
-    // The entry changes from call to call, so that it is there is asked, and is no invariant.
+    // Each call names another entry, so that there is one is asked, and can be no invariant.
     #[tactic(auto, using(search::proofs::Queuing::entries_fit, search::proofs::Queuing::room_left))]
     pub(crate) fn push(&mut self, i: usize, from: Option<usize>) -> bool
         requires low { i < length self.old.seen }

@@ -12,6 +12,7 @@ impl Frontier<'_> {
     // Moves what the slots of the way to the last entry hold along it, from its last slot back, and has
     // the first hold the content; the number of moves. Each step writes to the bank, so no chain of an
     // iterator is plainer.
+    // `stays` relates the bank before and after, and so is no invariant.
     pub(crate) fn carry_out<B: Bank>(&self, bank: &mut B, content: Option<Entry<B::Key>>) -> usize
         requires { (w : List ℕ) × Road self.now (self.now.tail - 1) w }
         ensures after { (w : List ℕ) → Road self.now (self.now.tail - 1) w
