@@ -23,7 +23,8 @@ pub(crate) struct PathSearch<'a, 'w, B: Bank, R: Rule<B::Key>> {
 }
 
 impl<'a, 'w, B: Bank, R: Rule<B::Key>> PathSearch<'a, 'w, B, R> {
-    // A search of the table that has come to no slot yet, in the lent words.
+    // A search of the table that has come to no slot yet, in the lent words. That they are long enough relates them to
+    // the table, so it is asked, here and of the list, and is no invariant.
     pub(crate) fn new(table: &'a Table<B, R>, words: &'w mut [u32]) -> PathSearch<'a, 'w, B, R>
         requires { 3 * slots (layout table.now) ≤ length words.old }
         ensures table { result.table.now ≡ table.now }

@@ -43,7 +43,8 @@ impl<'a> Frontier<'a> {
         self.tail
     }
 
-    // The slot of an entry; by `as`, since no `From` widens a `u32` to a `usize`.
+    // The slot of an entry; each call names another, so that there is one is asked. By `as`, since no `From` widens a
+    // `u32` to a `usize`.
     #[tactic(auto, using(search::proofs::Queuing::entries_fit))]
     pub(crate) fn slot(&self, entry: usize) -> usize
         requires { entry < self.now.tail }
