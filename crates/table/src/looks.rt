@@ -56,6 +56,7 @@ impl<B: Bank, R: Rule<B::Key>> Table<B, R> {
         let choices = self.rule.choices(key);
         let mut looks = 0;
         for b in choices.as_slice() {
+            // a product here and in the search: a method would have to ask that b is a bucket
             let here = look_range(&self.bank, key, b * self.width, self.width);
             looks += here.looks;
             if here.found.is_some() {

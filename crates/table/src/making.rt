@@ -19,6 +19,7 @@ impl<B: Bank, R: Rule<B::Key>> Table<B, R> {
     ) -> Result<Table<B, R>, Unmade<B, R>>
         ensures { MakeTells bank rule width stash result }
     {
+        // an error written twice, for a closure that writes it would take the bank and the rule
         if width < 1 || width > 4 || stash > 8 {
             return Err(Unmade {
                 refusal: Refusal::Size,

@@ -23,6 +23,7 @@ impl<B: Bank, R: Rule<B::Key>> PathSearch<'_, '_, B, R> {
         let table = self.table;
         let choices = table.rule.choices(key);
         for b in choices.as_slice() {
+            // as in a lookup
             let first = b * table.width;
             if self
                 .frontier
