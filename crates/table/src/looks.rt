@@ -30,7 +30,7 @@ fn look_range<B: Bank>(bank: &B, key: &B::Key, first: usize, count: usize) -> Lo
     requires { first + count < 2 ^ 32 }
     ensures { Looks (B.Bank.slots bank.now) (B.Key.Kind.bytes key.now) (range_with_len first count) result }
 {
-    // by index, which tells how many slots were looked at before
+    // by index, which is the number of looks; by `find_map` it would be computed back from the slot
     for j in 0..count {
         let slot = first + j;
         if let Some(value) = value_at(bank, slot, key) {

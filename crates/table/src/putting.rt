@@ -59,7 +59,7 @@ impl<B: Bank, R: Rule<B::Key>> Table<B, R> {
 
     // Puts the key with its value into the table. The work area comes back blank, but if it or the list
     // is too short; the list is changed only where the table is full.
-    // They are lent apart, so they stay two slices.
+    // Work area and list are lent apart, so they stay two slices; and how many slots stand in the list is told by `Full`.
     pub(crate) fn put(
         &mut self,
         key: B::Key,

@@ -11,6 +11,7 @@ use banks::Bank;
 impl Frontier<'_> {
     // Appends the slots from first to end that were not seen, up to the first vacant one; whether there
     // was one.
+    // The range by its two ends, of which the clauses speak, as in a lookup.
     pub(crate) fn offer<B: Bank>(
         &mut self,
         bank: &B,
