@@ -8,6 +8,7 @@ use Rattle.std.proofs.lemmas.Nat.{pow_pos, xor_lt, ones_le_self, zero_from_ones}
 use lib.Count.{ones, ones_step}
 use native.Mathlib.Nat.{pow-zero}
 use Rattle.places.specs.Rules.{XorSize}
+use Rattle.std.proofs.Math.Nat.{pow-le-pow_right}
 
 twice : (n : ℕ) → n % 2 ≡ 0 → IsPowerOfTwo (n / 2) → IsPowerOfTwo n
 twice n e p = (suc p.0, omega (arith, p.1, pow-suc 2 p.0))
@@ -37,8 +38,20 @@ tested_size n h l = let p = one_bit n n (omega arith) (eqb-true (count_ones n) 1
 pub power_of_xor : (n : ℕ) → XorSize n → is_power_of_two n ≡ true
 power_of_xor n s = eq-eqb (count_ones n) 1 (ap count_ones s.1 ∙ bit_of_power s.0)
 
+pub power_few : (k n : ℕ) → k ≤ 9 → n ≡ 2 ^ k → n ≤ 512
+power_few k n h e = omega (arith, pow-le-pow_right {n = 2} (omega arith) {i = k} {j = 9} h)
+
 pub power_some : (k n : ℕ) → n ≡ 2 ^ k → 1 ≤ n
 power_some k n e = omega (arith, pow_pos k)
+
+pub exponent_low : (k n : ℕ) → n ≡ 2 ^ k → n ≤ 512 → k ≤ 9
+exponent_low k n e h = elim (dec_le k 9) [ yes l ↦ l | no l ↦ absurd (far (omega arith)) ]
+  where
+    far : 10 ≤ k → ⊥
+    far l = omega (arith, pow-le-pow_right {n = 2} (omega arith) {i = 10} {j = k} l)
+
+pub xor_size : (k n : ℕ) → k ≤ 9 → n ≡ 2 ^ k → XorSize n
+xor_size k n h e = (k, e, power_few k n h e)
 
 -- what is exclusive-ored below a power of two stays below it
 pub xor_inside : (k n a b : ℕ) → n ≡ 2 ^ k → bit_xor (a % n) (b % n) < n
