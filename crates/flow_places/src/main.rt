@@ -74,9 +74,13 @@ fn place_lines<K: Spelled, F: BufRead + Drop, W: Write>(
     let mut placer = Placer::new::<K>(&setting.rule, setting.seed);
     let mut counts = Counts::default();
     let mut text = Vec::new(heap);
-    for line in lines {
+    for read in lines {
+        // by reference, for a line that `?` hands on is copied once more
+        let Ok(line) = &read else {
+            return read.map(|_| ());
+        };
         text.clear();
-        counts.count(placer.answer::<K>(line?.get(), &mut text)?);
+        counts.count(placer.answer::<K>(line.get(), &mut text)?);
         out.write_all(text.as_slice())?;
     }
     report(counts, placer.spread.summary(), out)

@@ -3,7 +3,7 @@ ghost use Rattle.std.specs.Prelude.{◌≡◌, ◌^◌, ◌-◌};
 ghost use Rattle.std.specs.Iterator.{at_most};
 ghost use Rattle.lines.specs.Each.{lines_left, known_left, GivesLine};
 
-use crate::{Line, next_line};
+use crate::{Line, read_line};
 use std::io;
 use std::io::BufRead;
 
@@ -39,6 +39,12 @@ where
 
     fn next(&mut self) -> Option<io::Result<Line>> {
         self.left = self.left.checked_sub(1)?;
-        next_line(&mut self.from).transpose()
+        // by a match, for a line that `transpose` hands on is taken apart and put together
+        let mut line = Line::new();
+        match read_line(&mut self.from, &mut line) {
+            Ok(true) => Some(Ok(line)),
+            Ok(false) => None,
+            Err(error) => Some(Err(error)),
+        }
     }
 }

@@ -1,7 +1,8 @@
 // Lines of input of at most 128 bytes, read piece by piece with bounded memory.
 #![tactic(auto)]
 
-ghost use Rattle.std.specs.Prelude.{◌≡◌, ◌==◌, ℕ, List, ◌++◌, position, IfSome, IfOk};
+ghost use Rattle.std.specs.Prelude.{◌≡◌, ◌==◌, ℕ, List, [], ◌++◌, position, IfSome, IfOk};
+ghost use Rattle.std.specs.Bool.{then_some};
 ghost use Rattle.lines.specs.Lines.{line_text, until_feed};
 ghost use Rattle.lines.specs.Said.{said, SaysLine, ReadsLine};
 ghost use Rattle.lines.specs.Pieces.{Takes};
@@ -63,20 +64,30 @@ fn take_piece<R: BufRead>(from: &mut R, line: &mut Line) -> io::Result<Piece>
     Ok(Piece::Last)
 }
 
+// Takes the next line of the input into an empty one, where it lies; whether there was any.
+fn read_line<R: BufRead>(from: &mut R, line: &mut Line) -> io::Result<bool>
+    requires { said line.old ≡ line_text [] }
+    ensures says { IfOk result (λ some. IfSome (then_some some line.new) SaysLine) }
+    ensures reads { IfOk result (λ some. ReadsLine (R.remaining from.old) (then_some some line.new) (R.remaining from.new)) }
+{
+    // bounded, as every loop is; the index tells whether anything was taken
+    for taken in 0..u64::MAX {
+        match take_piece(from, line)? {
+            Piece::More => {}
+            Piece::Last => return Ok(true),
+            Piece::End => return Ok(taken > 0),
+        }
+    }
+    // more pieces than any input has
+    Err(ErrorKind::Other.into())
+}
+
 // The next line of the input, or nothing at its end. The last line may lack its line feed.
 pub fn next_line<R: BufRead>(from: &mut R) -> io::Result<Option<Line>>
     ensures says { IfOk result (λ o. IfSome o SaysLine) }
     ensures reads { IfOk result (λ o. ReadsLine (R.remaining from.old) o (R.remaining from.new)) }
 {
     let mut line = Line::new();
-    // bounded, as every loop is; the index tells whether anything was taken
-    for taken in 0..u64::MAX {
-        match take_piece(from, &mut line)? {
-            Piece::More => {}
-            Piece::Last => return Ok(Some(line)),
-            Piece::End => return Ok((taken > 0).then_some(line)),
-        }
-    }
-    // more pieces than any input has
-    Err(ErrorKind::Other.into())
+    let some = read_line(from, &mut line)?;
+    Ok(some.then_some(line))
 }

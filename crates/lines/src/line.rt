@@ -1,5 +1,5 @@
 // A line of input, with bounded memory.
-ghost use Rattle.std.specs.Prelude.{◌≡◌, ℕ, List, [], ◌++◌};
+ghost use Rattle.std.specs.Prelude.{◌≡◌, ◌≤◌, ℕ, List, [], ◌++◌, length, IfSome};
 ghost use Rattle.std.specs.Option.{option_map};
 ghost use Rattle.lines.specs.Lines.{line_text};
 ghost use Rattle.lines.specs.Said.{said};
@@ -22,7 +22,8 @@ impl Line {
         }
     }
 
-    // These bytes more.
+    // These bytes more. Not inlined, so that the line stays in memory, and is not taken apart and put together.
+    #[inline(never)]
     pub(crate) fn extend(&mut self, bytes: &[u8])
         ensures { (bs : List ℕ) → said self.old ≡ line_text bs → said self.new ≡ line_text (bs ++ bytes.now) }
     {
@@ -35,7 +36,8 @@ impl Line {
 
     // The bytes of the line, or nothing where it has more than 128.
     pub fn get(&self) -> Option<&[u8]>
-        ensures { option_map (λ x. x.now) result ≡ said self.now }
+        ensures value { option_map (λ x. x.now) result ≡ said self.now }
+        ensures few { IfSome result (λ x. length x.now ≤ 128) }
     {
         self.text.as_ref().map(|text| text.as_slice())
     }

@@ -9,6 +9,9 @@ use std::alloc::AllocError;
 use std::fmt;
 use text::Spelled;
 
+// Room for the word and three buckets of three digits.
+const LINE: usize = 24;
+
 // A key, its word and the buckets that it chooses.
 #[derive(Clone, Copy, Debug, PartialEq, Eq)]
 pub(crate) struct Placed<K> {
@@ -42,8 +45,9 @@ impl<K: Spelled> Placed<K> {
         self.key.write(out)?;
         let word = self.word;
         let buckets = Buckets(self.choices.as_slice());
-        // a text first, for the error of `write!` does not tell want of memory
-        let text = format!(in *out.allocator(); " 0x{word:08x}{buckets}\n")?;
+        // a text first, with room for the line at once: `write!` into the vector, piece by piece, is slower
+        let mut text = String::with_capacity(*out.allocator(), LINE)?;
+        write!(text, " 0x{word:08x}{buckets}\n")?;
         out.extend_from_slice(text.as_bytes())
     }
 }

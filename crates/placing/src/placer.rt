@@ -1,5 +1,5 @@
 // What places the keys of lines.
-ghost use Rattle.std.specs.Prelude.{◌≡◌, ◌++◌, IfOk, OnOk, replicate};
+ghost use Rattle.std.specs.Prelude.{◌≡◌, ◌≤◌, ◌++◌, length, IfOk, OnOk, replicate};
 ghost use Rattle.std.specs.Option.{option_copied};
 ghost use Rattle.placing.specs.Answers.{line_key, answer_text, Kept};
 ghost use Rattle.placing.specs.Outcomes.{outcome_of};
@@ -10,6 +10,7 @@ use keys::{Kind, Refusal};
 use places::{Rule, fnv1a};
 use spread::Spread;
 use std::alloc::AllocError;
+use std::io::Write;
 use text::Spelled;
 
 // What became of a line.
@@ -67,8 +68,12 @@ impl<'a, R> Placer<'a, R> {
             (line_key K.Spelled.reads (option_copied line.entry))) }
         ensures counts { Kept (R.Rule.places self.old.rule.now)
             (line_key K.Spelled.reads (option_copied line.entry)) self.old.spread self.new.spread }
+        ensures some { 1 ≤ length self.new.spread }
+        ensures few { length self.new.spread ≤ 512 }
         ensures same { self.new ≡ record self.old { spread = self.new.spread } }
     {
+        // a look at the spread, from which the proof has how many counts there are
+        let _ = self.spread.buckets();
         match self.place::<K>(line) {
             Ok(placed) => {
                 self.spread.note(&placed.choices);
@@ -76,9 +81,8 @@ impl<'a, R> Placer<'a, R> {
                 Ok(Outcome::Placed)
             }
             Err(refusal) => {
-                // a text first, for the error of `write!` does not tell want of memory
-                let text = format!(in *out.allocator(); "{refusal}\n")?;
-                out.extend_from_slice(text.as_bytes())?;
+                // a vector wants nothing but memory
+                writeln!(out, "{refusal}").map_err(|_| AllocError)?;
                 Ok(Outcome::Refused)
             }
         }

@@ -21,5 +21,5 @@ impl Model for Spread {
 
     ghost view = { λ s. s.counts.items };
 
-    ghost invariant = { λ s. 1 ≤ length s.counts.items };
+    ghost invariant = { λ s. (1 ≤ length s.counts.items) × (length s.counts.items ≤ 512) };
 }

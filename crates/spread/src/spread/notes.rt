@@ -1,5 +1,5 @@
 // A key noted with its choices.
-ghost use Rattle.std.specs.Prelude.{◌≡◌, replicate, slice_index, slice_set};
+ghost use Rattle.std.specs.Prelude.{◌≡◌, ◌≤◌, length, replicate, slice_index, slice_set};
 ghost use Rattle.places.specs.Choices.{listed};
 ghost use Rattle.spread.specs.Spreads.{more, Noted};
 
@@ -32,7 +32,9 @@ fn note_all(counts: &mut ArrayVec<u64, 512>, choices: &[usize])
 impl Spread {
     // No key yet, over the buckets of a rule.
     pub fn over<K: Kind, R: Rule<K>>(rule: &R) -> Spread
-        ensures { result ≡ replicate (R.Rule.count rule.now) 0 }
+        ensures none { result ≡ replicate (R.Rule.count rule.now) 0 }
+        ensures some { 1 ≤ length result }
+        ensures few { length result ≤ 512 }
     {
         let mut counts = ArrayVec::from([0; 512]);
         counts.truncate(rule.buckets());
@@ -41,7 +43,9 @@ impl Spread {
 
     // One key more, with its choices.
     pub fn note(&mut self, choices: &Choices)
-        ensures { Noted (listed choices.now) self.old self.new }
+        ensures noted { Noted (listed choices.now) self.old self.new }
+        ensures some { 1 ≤ length self.new }
+        ensures few { length self.new ≤ 512 }
     {
         note_all(&mut self.counts, choices.as_slice());
     }

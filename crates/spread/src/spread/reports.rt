@@ -43,6 +43,15 @@ pub struct Summary {
 }
 
 impl Spread {
+    // How many buckets there are.
+    pub fn buckets(&self) -> usize
+        ensures value { result ≡ length self.now }
+        ensures some { 1 ≤ length self.now }
+        ensures few { length self.now ≤ 512 }
+    {
+        self.counts.len()
+    }
+
     // What was noted so far, in numbers.
     pub fn summary(&self) -> Summary
         ensures tells { Tells self.now result }

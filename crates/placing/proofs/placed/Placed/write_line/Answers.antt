@@ -6,7 +6,7 @@ use Rattle.placing.proofs.placed.Placed.write_line.Goals as goal
 
 pub returns : goal.returns
 returns g c =
-    let text = rw (c.laid_out.ensures, c.in_radix.ensures, padded_hex c.args.self.now.word (omega arith), c.as_slice.ensures.value) at c.in_ok-text.ensures.ok in
+    let text = rw (c.laid_out.ensures, c.in_radix.ensures, padded_hex c.args.self.now.word (omega arith), c.as_slice.ensures.value, c.in_ok-text.ensures.bytes) at c.in_ok-write-2.ensures.bytes in
     on_ok_weaker c.extend_from_slice.result
     (λ e. place_line c.args.out.now.items c.write.new.out.items _ _ c.args.self.now.word _ c.in_ok-write.ensures
     (e ∙ ap (λ (t : List ℕ). c.write.new.out.items ++ t) (c.as_bytes.ensures.value ∙ text)))

@@ -1,6 +1,6 @@
 use Rattle.std.proofs.Common.{◌≡◌, ◌≤◌, ℕ, List, length}
 use Rattle.lines.proofs.Known.{Taken}
-use Rattle.lines.proofs.next_line.Given as goal
+use Rattle.lines.proofs.read_line.Given as goal
 
 -- the line says what was taken so far, which is nothing at first and no less than a byte a piece
 abbrev pub invariant-loop-taken : goal.invariant-loop-taken
